@@ -11,15 +11,15 @@ use Rattle.active_lines.specs.declared.chunk.Least.TheVariants.{Unknown, Known}
 use Rattle.active_lines.specs.ActiveLists.{last_of}
 use Rattle.active_lines.specs.Leaning.{MeetAbove, IsNearLine}
 use Rattle.active_lines.specs.Neighbours.{SomeMeeting, IsLeastMeeting}
-use Rattle.active_lines.specs.Chunked.{IsNear, IsKept, IsChunk, HasLine}
+use Rattle.active_lines.specs.Chunked.{HasNearLine, IsKept, IsChunk, HasLine}
 use Rattle.active_lines.proofs.Meeting.{meeting_right}
 
 pub meeting_drop : (k : ℕ) (lines : List ActiveLine) (y : ℤ) → SomeMeeting (drop k lines) y → SomeMeeting lines y
 meeting_drop k lines y h = subst (λ (xs : List ActiveLine). SomeMeeting xs y) (take-append-drop k lines) (meeting_right (take k lines) (drop k lines) y h)
 
-pub near_insert : (lines : List ActiveLine) (k : ℕ) (l : ActiveLine) → All IsNear lines → IsNear l → All IsNear (insert lines k l)
-near_insert lines k l a near = All-append IsNear (take k lines) (l ∷ drop k lines) (All-take IsNear k lines a)
-    (All-cons IsNear l (drop k lines) near (All-drop IsNear k lines a))
+pub near_insert : (lines : List ActiveLine) (k : ℕ) (l : ActiveLine) → All HasNearLine lines → HasNearLine l → All HasNearLine (insert lines k l)
+near_insert lines k l a near = All-append HasNearLine (take k lines) (l ∷ drop k lines) (All-take HasNearLine k lines a)
+    (All-cons HasNearLine l (drop k lines) near (All-drop HasNearLine k lines a))
 
 pub last_is : (lines : List ActiveLine) (d : ActiveLine) → HasLine lines → last_of lines ≡ Some (get_or lines (length lines - 1) d)
 last_is [] d h = absurd (omega (arith, h))
@@ -66,6 +66,6 @@ kept_set lines k l d (Known least) inside e h = least_set lines k l d least insi
 pub chunk_set : (lines : List ActiveLine) (k : ℕ) (l : ActiveLine) (least : Least) → k < length lines
     → HoldsAt (λ (m : ActiveLine). l.line ≡ m.line) lines k → IsChunk lines least → IsChunk (set lines k l) least
 chunk_set lines k l least inside same h = record {
-  near = All-set IsNear lines k l (subst IsNearLine (sym (same l)) (h.near k l inside)) h.near;
+  near = All-set HasNearLine lines k l (subst IsNearLine (sym (same l)) (h.near k l inside)) h.near;
   kept = kept_set lines k l l least inside (same l) h.kept;
 }

@@ -5,7 +5,7 @@ use Rattle.std.proofs.lemmas.List.Elements.{All-tail}
 use Rattle.std.specs.Prelude.{int_lt}
 use Rattle.active_lines.specs.declared.item.ActiveLine.{ActiveLine}
 use Rattle.active_lines.specs.Neighbours.{SomeMeeting, MeetAtSeam, IsUpTo, lesser_of, IsSeam, IsLeastMeeting, IsFirstMeeting}
-use Rattle.active_lines.specs.Chunked.{IsNear}
+use Rattle.active_lines.specs.Chunked.{HasNearLine}
 
 -- ---- the lesser of two
 
@@ -106,7 +106,7 @@ least_of_two xs ys a s b p q r = record {
 
 -- what is found before the lines that are left
 pub record IsLeastBefore (lines left : List ActiveLine) (least : Option ℤ) : Type 0 where
-  pub near : All IsNear left
+  pub near : All HasNearLine left
   pub attained : IfSome least (SomeMeeting lines)
   pub rest : (z : ℤ) → SomeMeeting lines z → IsUpTo z least ⊎ SomeMeeting left z
   pub within : (z : ℤ) → SomeMeeting left z → SomeMeeting lines z
@@ -127,7 +127,7 @@ module _ (lines : List ActiveLine) (l : ActiveLine) (left : List ActiveLine) (le
 
   pub least_more : IsLeastBefore lines left (lesser_of least seam)
   least_more = record {
-    near = All-tail IsNear l left found.near;
+    near = All-tail HasNearLine l left found.near;
     attained = lesser_some (SomeMeeting lines) least seam found.attained (seam_within seam s.attained);
     rest = λ z h. by_least z (found.rest z h);
     within = λ z h. found.within z (later_meeting l left z h);
@@ -137,7 +137,7 @@ module _ (lines : List ActiveLine) (l : ActiveLine) (left : List ActiveLine) (le
 
 -- the leftmost meeting at the Y isn't before the lines that are left
 pub record IsNoneBefore (lines left : List ActiveLine) (y : ℤ) : Type 0 where
-  pub near : All IsNear left
+  pub near : All HasNearLine left
   pub some : (l : ActiveLine) → IsFirstMeeting left y l → IsFirstMeeting lines y l
   pub none : SomeMeeting lines y → SomeMeeting left y
 
@@ -177,7 +177,7 @@ later_only l left y never (inr h) = h
 pub none_more : (lines : List ActiveLine) (l : ActiveLine) (left : List ActiveLine) (y : ℤ) → IsNoneBefore lines (l ∷ left) y
     → (MeetAtSeam (l ∷ []) left y → ⊥) → IsNoneBefore lines left y
 none_more lines l left y found never = record {
-  near = All-tail IsNear l left found.near;
+  near = All-tail HasNearLine l left found.near;
   some = λ k h. found.some k (first_later l left y k never h);
   none = λ h. later_only l left y never (seam_or_later l left y (found.none h));
 }

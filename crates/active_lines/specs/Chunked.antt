@@ -13,11 +13,11 @@ abbrev pub IsKept : List ActiveLine → Least → Type 0
 IsKept lines Unknown = Unit {0}
 IsKept lines (Known least) = IsLeastMeeting lines least
 
-abbrev pub IsNear : ActiveLine → Type 0
-IsNear l = IsNearLine l.line
+abbrev pub HasNearLine : ActiveLine → Type 0
+HasNearLine l = IsNearLine l.line
 
 pub record IsChunk (lines : List ActiveLine) (least : Least) : Type 0 where
-  pub near : All IsNear lines
+  pub near : All HasNearLine lines
   pub kept : IsKept lines least
 
 -- the lines of all chunks

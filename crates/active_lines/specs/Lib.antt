@@ -1,8 +1,7 @@
--- ---- what is promised, in reading order
+-- ---- what is kept inside
 pub mod ActiveLists
 pub mod Points
 pub mod Leaning
 pub mod LeaningLaws
 pub mod Neighbours
--- ---- what is kept inside
 pub mod Chunked

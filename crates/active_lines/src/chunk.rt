@@ -61,11 +61,11 @@ const MOST: usize = 64;
 impl Chunk {
     ghost use Rattle.active_lines.specs.Neighbours.{SomeMeeting, IsLeastMeeting, IsFirstMeeting};
     ghost use Rattle.active_lines.specs.ActiveLists.{IsShut, last_of};
-    ghost use Rattle.active_lines.specs.Chunked.{HasLine, IsNear};
+    ghost use Rattle.active_lines.specs.Chunked.{HasLine, HasNearLine};
 
     /// A chunk of one line.
     pub(crate) fn one(alloc: Global, line: ActiveLine) -> Result<Chunk, NoMemory>
-        requires { IsNear line }
+        requires { HasNearLine line }
         ensures { IfOk result (λ chunk. chunk ≡ line ∷ []) }
     {
         let mut lines = Vec::new(alloc);
@@ -97,7 +97,7 @@ impl Chunk {
     pub(crate) fn get(&self, k: usize) -> ActiveLine
         requires { k < length self.now }
         ensures line { HoldsAt (λ l. result ≡ l) self.now k }
-        ensures near { IsNear result }
+        ensures near { HasNearLine result }
     {
         self.lines[k]
     }
@@ -107,7 +107,7 @@ impl Chunk {
     pub(crate) fn last(&self) -> ActiveLine
         requires { HasLine self.now }
         ensures line { last_of self.now ≡ Some result }
-        ensures near { IsNear result }
+        ensures near { HasNearLine result }
     {
         self.lines[self.lines.len() - 1]
     }
@@ -115,7 +115,7 @@ impl Chunk {
     /// Puts a line before the one with this number, or at the end.
     pub(crate) fn insert(&mut self, k: usize, line: ActiveLine) -> Result<(), NoMemory>
         requires inside { k ≤ length self.old }
-        requires near { IsNear line }
+        requires near { HasNearLine line }
         ensures ok { OnOk result (self.new ≡ insert self.old k line) }
         ensures no_memory { OnErr result (self.new ≡ self.old) }
     {

@@ -2,7 +2,7 @@
 ghost use Rattle.std.specs.Prelude.{◌≡◌, ◌+◌, ◌<◌, ◌≤◌, ◌++◌, ◌∷◌, [], All, IfOk, OnOk, OnErr, IsTrue, length, take, drop, ◌-◌, slice_set, vec_len, vec_capacity};
 ghost use Rattle.std.specs.List.{HoldsAt};
 ghost use Rattle.active_lines.specs.ActiveLists.{BeginsOn, reopened};
-ghost use Rattle.active_lines.specs.Chunked.{IsNear, IsPlace, ArePages, HasLine, chunk_at, lines_of, lines_before, lines_after};
+ghost use Rattle.active_lines.specs.Chunked.{HasNearLine, IsPlace, ArePages, HasLine, chunk_at, lines_of, lines_before, lines_after};
 
 use crate::chunk::{Chunk, Least};
 use crate::item::{ActiveLine, Opened};
@@ -29,7 +29,7 @@ pub(crate) fn append(
     line: ActiveLine,
 ) -> Result<(), NoMemory>
     requires full { All HasLine chunks.old.items }
-    requires near { IsNear line }
+    requires near { HasNearLine line }
     requires pages { ArePages chunks.old.items leasts.old.items }
     ensures full { All HasLine chunks.new.items }
     ensures ok { OnOk result (lines_of chunks.new.items ≡ lines_of chunks.old.items ++ line ∷ []) }
@@ -106,7 +106,7 @@ pub(crate) fn insert_at(
 ) -> Result<(), NoMemory>
     requires place { IsPlace chunks.old.items place.chunk place.at }
     requires chunk { place.chunk < length chunks.old.items }
-    requires near { IsNear line }
+    requires near { HasNearLine line }
     requires pages { ArePages chunks.old.items leasts.old.items }
     ensures place { OnOk result (IsPlace chunks.new.items place.chunk (place.at + 1)) }
     ensures chunk { place.chunk < length chunks.new.items }

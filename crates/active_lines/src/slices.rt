@@ -5,7 +5,7 @@ ghost use Rattle.half_grid.specs.Reach.{IsWithinReach};
 ghost use Rattle.active_lines.specs.Points.{IsBefore, IsNotBefore, AscendAt};
 ghost use Rattle.active_lines.specs.Neighbours.{SomeMeeting, IsLeastMeeting, IsFirstMeeting, IsSeam};
 ghost use Rattle.active_lines.specs.ActiveLists.{IsShut};
-ghost use Rattle.active_lines.specs.Chunked.{IsNear};
+ghost use Rattle.active_lines.specs.Chunked.{HasNearLine};
 
 use crate::item::ActiveLine;
 use crate::leaning::{Level, is_at, lesser, meeting_above, x_of};
@@ -14,7 +14,7 @@ use half_grid::Point;
 /// Whether the line passes left of the point.
 #[inline]
 pub(crate) fn is_before(line: &ActiveLine, point: Point) -> bool
-    requires line { IsNear line.now }
+    requires line { HasNearLine line.now }
     requires y { IsWithinReach point.y }
     ensures before { IsTrue result → IsBefore point.x point.y line.now }
     ensures not_before { result ≡ false → IsNotBefore point.x point.y line.now }
@@ -24,7 +24,7 @@ pub(crate) fn is_before(line: &ActiveLine, point: Point) -> bool
 
 /// How many of the lines, from the left, pass left of the point, by halving.
 pub(crate) fn place_of(lines: &[ActiveLine], point: Point) -> usize
-    requires near { All IsNear lines.now }
+    requires near { All HasNearLine lines.now }
     requires ascend { AscendAt point.y lines.now }
     requires y { IsWithinReach point.y }
     ensures inside { result ≤ length lines.now }
@@ -47,8 +47,8 @@ pub(crate) fn place_of(lines: &[ActiveLine], point: Point) -> usize
 // The Y at which the line meets the first of the others above, if it does.
 #[inline]
 fn meeting_with(line: &ActiveLine, others: &[ActiveLine]) -> Option<i64>
-    requires line { IsNear line.now }
-    requires others { All IsNear others.now }
+    requires line { HasNearLine line.now }
+    requires others { All HasNearLine others.now }
     ensures { IsSeam (line.now ∷ []) others.now result }
 {
     match others.first() {
@@ -59,7 +59,7 @@ fn meeting_with(line: &ActiveLine, others: &[ActiveLine]) -> Option<i64>
 
 /// The least Y at which one of the lines meets the next one.
 pub(crate) fn least_meeting(lines: &[ActiveLine]) -> Option<i64>
-    requires { All IsNear lines.now }
+    requires { All HasNearLine lines.now }
     ensures { IsLeastMeeting lines.now result }
 {
     let mut least = None;
@@ -73,7 +73,7 @@ pub(crate) fn least_meeting(lines: &[ActiveLine]) -> Option<i64>
 
 /// The leftmost of the lines that meets the next one at the level.
 pub(crate) fn first_meeting(lines: &[ActiveLine], level: Level) -> Option<ActiveLine>
-    requires { All IsNear lines.now }
+    requires { All HasNearLine lines.now }
     ensures some { IfSome result (IsFirstMeeting lines.now level.y) }
     ensures none { IfNone result (SomeMeeting lines.now level.y → ⊥) }
 {

@@ -1,6 +1,5 @@
--- ---- what is promised, in reading order
+-- ---- what is kept inside
 pub mod Cuts
 pub mod Parts
 pub mod Strips
--- ---- what is kept inside
 pub mod Growing

@@ -17,8 +17,8 @@ use Rattle.cell_tree.specs.Cells.{PlacesCell, PlacesAt, PlacesUnknown, HasFixed,
 use Rattle.cell_tree.specs.Chains.{Link, IsChain, chain_cells, chain_factor, IsReachable, IsCycle, IsShort}
 use Rattle.cell_tree.specs.Orders.{IsAmong, IsBefore, IsOrder}
 use Rattle.cell_tree.specs.Searches.{IsFound}
-use Rattle.cell_tree.specs.Trees.{IsKnown, IsAcyclic, IsShallow, IsMild, KeepsFixed, IsNear, IsTree}
-use Rattle.cell_tree.specs.Faults.{IsFirstFault, IsUnknown, IsEnlarged, IsExtent, IsCrowded, is_beyond, first_beyond, order_of}
+use Rattle.cell_tree.specs.Trees.{IsKnown, IsAcyclic, IsShallow, IsMild, KeepsFixed, AreVerticesNear, IsTree}
+use Rattle.cell_tree.specs.Faults.{IsFirstTreeFault, IsUnknown, IsEnlarged, IsExtent, IsCrowded, is_beyond, first_beyond, order_of}
 use Rattle.cell_tree.specs.declared.faults.TreeBad.{TreeBad}
 use Rattle.cell_tree.specs.declared.faults.TreeBad.TheVariants.{NoTop, Unknown, Cycle, Deep, Scale, Fixed, Extent, Count}
 use Rattle.std.specs.List.{sum_by, AllByRecursion}
@@ -219,7 +219,7 @@ whole_of cells n hulls are = whole_hull (IsVertex cells n) (λ p. ⊥) (Every ce
     entry_of hulls pair p None e is v = absurd (subst (IsHull (IsVertex cells n pair)) e is p v)
     entry_of hulls pair p (Some box) e is v = let f = find_entry hulls pair box e in (f.0, f.1, f.2, subst (λ q. IsVertex cells n q p) (sym f.3) v)
 
-pub near_of : (cells : List Cell) (top : ℕ) (hulls : List PairHull) → AreCellHulls cells top hulls → extent_in hulls ≡ None → IsNear cells top
+pub near_of : (cells : List Cell) (top : ℕ) (hulls : List PairHull) → AreCellHulls cells top hulls → extent_in hulls ≡ None → AreVerticesNear cells top
 near_of cells top hulls are none pair p vertex = by (whole_from None hulls) (whole_of cells top hulls are) none
   where
     by : (o : Option Frame) → IsHull (Every cells top) o → option_and_then first_beyond o ≡ None → IsWithin (2 ^ 30) p
@@ -264,7 +264,7 @@ extent_same cells top value shown near extent same =
 
 -- ---- a tree has no fault
 
-pub no_fault : (cells : List Cell) (top : ℕ) (bad : TreeBad) → All IsCellOnGrid cells → IsTree cells top → IsFirstFault cells top bad → ⊥
+pub no_fault : (cells : List Cell) (top : ℕ) (bad : TreeBad) → All IsCellOnGrid cells → IsTree cells top → IsFirstTreeFault cells top bad → ⊥
 no_fault cells top NoTop grid tree fault = fault
 no_fault cells top (Unknown cell name) grid tree fault = tree.known fault.number fault.placement fault.reachable fault.unknown
 no_fault cells top (Cycle names) grid tree fault = tree.acyclic fault.1.numbers fault.1.cycle
@@ -419,7 +419,7 @@ order_short cells top order shown e in_order shallow n among = let a = among_sho
 -- ---- the answer
 
 pub accepted : {T : Type 0} (cells : List Cell) (top : ℕ) (r : Result T (Refusal TreeBad)) → All IsCellOnGrid cells
-    → IfFault r (IsFirstFault cells top) → IsTree cells top → IsOk r ⊎ (r ≡ Err refusals.NoMemory)
+    → IfFault r (IsFirstTreeFault cells top) → IsTree cells top → IsOk r ⊎ (r ≡ Err refusals.NoMemory)
 accepted cells top (Ok tree) grid fault is = inl refl
 accepted cells top (Err (refusals.Fault bad)) grid fault is = absurd (no_fault cells top bad grid is fault)
 accepted cells top (Err refusals.NoMemory) grid fault is = inr refl
@@ -520,10 +520,10 @@ Asked cells top (suc (suc zero)) = IsAcyclic cells top
 Asked cells top (suc (suc (suc zero))) = IsShallow cells top
 Asked cells top (suc (suc (suc (suc zero)))) = IsMild cells top
 Asked cells top (suc (suc (suc (suc (suc zero))))) = KeepsFixed cells top
-Asked cells top (suc (suc (suc (suc (suc (suc zero)))))) = IsNear cells top
+Asked cells top (suc (suc (suc (suc (suc (suc zero)))))) = AreVerticesNear cells top
 Asked cells top (suc (suc (suc (suc (suc (suc (suc k))))))) = Unit {0}
 
-asked_before : (cells : List Cell) (top : ℕ) (bad : TreeBad) → IsFirstFault cells top bad → (k : ℕ) → k < order_of bad → Asked cells top k
+asked_before : (cells : List Cell) (top : ℕ) (bad : TreeBad) → IsFirstTreeFault cells top bad → (k : ℕ) → k < order_of bad → Asked cells top k
 asked_before cells top bad fault zero less = tt
 asked_before cells top bad fault (suc (suc (suc (suc (suc (suc (suc k))))))) less = tt
 asked_before cells top NoTop fault (suc k) less = absurd fault
@@ -556,7 +556,7 @@ asked_before cells top (Count cell value) fault (suc (suc (suc (suc (suc zero)))
 asked_before cells top (Count cell value) fault (suc (suc (suc (suc (suc (suc zero)))))) less = fault.5
 
 -- a fault that isn't the last breaks what is asked at its place
-breaks : (cells : List Cell) (top : ℕ) (bad : TreeBad) → IsFirstFault cells top bad → order_of bad < 7 → Asked cells top (order_of bad) → ⊥
+breaks : (cells : List Cell) (top : ℕ) (bad : TreeBad) → IsFirstTreeFault cells top bad → order_of bad < 7 → Asked cells top (order_of bad) → ⊥
 breaks cells top NoTop fault less asked = fault
 breaks cells top (Unknown cell name) fault less asked = asked fault.number fault.placement fault.reachable fault.unknown
 breaks cells top (Cycle names) fault less asked = asked fault.1.numbers fault.1.cycle
@@ -577,11 +577,11 @@ top_order (Fixed value cell) = omega arith
 top_order (Extent value) = omega arith
 top_order (Count cell value) = omega arith
 
-no_less : (cells : List Cell) (top : ℕ) (a b : TreeBad) → IsFirstFault cells top a → IsFirstFault cells top b → order_of a < order_of b → ⊥
+no_less : (cells : List Cell) (top : ℕ) (a b : TreeBad) → IsFirstTreeFault cells top a → IsFirstTreeFault cells top b → order_of a < order_of b → ⊥
 no_less cells top a b first second less = let most = top_order b in breaks cells top a first (omega arith)
     (asked_before cells top b second (order_of a) less)
 
-same_order : (cells : List Cell) (top : ℕ) (a b : TreeBad) → IsFirstFault cells top a → IsFirstFault cells top b → order_of a ≡ order_of b
+same_order : (cells : List Cell) (top : ℕ) (a b : TreeBad) → IsFirstTreeFault cells top a → IsFirstTreeFault cells top b → order_of a ≡ order_of b
 same_order cells top a b first second =
     elim (apart (order_of a) (order_of b)) [
       | inl e ↦ e
@@ -595,8 +595,8 @@ same_order cells top a b first second =
     less_or (suc m) (suc n) d a b = less_or m n (λ e. d (ap suc e)) (λ h. a (omega arith)) (λ h. b (omega arith))
 
 pub answered : {T : Type 0} (cells : List Cell) (top : ℕ) (r : Result T (Refusal TreeBad)) (bad : TreeBad)
-    → All IsCellOnGrid cells → OnOk r (IsTree cells top) → IfFault r (IsFirstFault cells top)
-    → IsFirstFault cells top bad → IsErrAnd r (IsForFault (λ answer. order_of answer ≡ order_of bad))
+    → All IsCellOnGrid cells → OnOk r (IsTree cells top) → IfFault r (IsFirstTreeFault cells top)
+    → IsFirstTreeFault cells top bad → IsErrAnd r (IsForFault (λ answer. order_of answer ≡ order_of bad))
 answered cells top (Ok tree) bad grid is fault first = absurd (no_fault cells top bad grid is first)
 answered cells top (Err (refusals.Fault answer)) bad grid is fault first = same_order cells top answer bad fault first
 answered cells top (Err refusals.NoMemory) bad grid is fault first = tt

@@ -8,7 +8,7 @@ use Rattle.cell_tree.specs.Cells.{name_at, PlacesCell, PlacesUnknown, HasFixed}
 use Rattle.cell_tree.specs.Chains.{Link, IsChain, chain_cells, chain_end, chain_factor, IsReachable, IsCycle}
 use Rattle.cell_tree.specs.Flattening.{IsVertex, shape_count}
 use Rattle.cell_tree.specs.Boxes.{IsLeastBox}
-use Rattle.cell_tree.specs.Trees.{IsKnown, IsAcyclic, IsShallow, IsMild, KeepsFixed, IsNear}
+use Rattle.cell_tree.specs.Trees.{IsKnown, IsAcyclic, IsShallow, IsMild, KeepsFixed, AreVerticesNear}
 use Rattle.cell_tree.specs.declared.faults.TreeBad.{TreeBad}
 use Rattle.cell_tree.specs.declared.faults.TreeBad.TheVariants.{NoTop, Unknown, Cycle, Deep, Scale, Fixed, Extent, Count}
 
@@ -76,18 +76,18 @@ pub record IsCrowded (cells : List Cell) (top : ℕ) (cell : List ℕ) (value : 
   pub count : value ≡ min (shape_count cells number) (2 ^ 128 - 1)
 
 -- the fault is there, and none that is looked for before it is
-abbrev pub IsFirstFault : List Cell → ℕ → TreeBad → Type 0
-IsFirstFault cells top NoTop = ⊥
-IsFirstFault cells top (Unknown cell name) = IsUnknown cells top cell name
-IsFirstFault cells top (Cycle names) = IsKnown cells top × IsNamedCycle cells top names
-IsFirstFault cells top (Deep names) = IsKnown cells top × IsAcyclic cells top × IsDeep cells top names
-IsFirstFault cells top (Scale value names) = IsKnown cells top × IsAcyclic cells top × IsShallow cells top × IsScaled cells top value names
-IsFirstFault cells top (Fixed value cell) = IsKnown cells top × IsAcyclic cells top × IsShallow cells top × IsMild cells top
+abbrev pub IsFirstTreeFault : List Cell → ℕ → TreeBad → Type 0
+IsFirstTreeFault cells top NoTop = ⊥
+IsFirstTreeFault cells top (Unknown cell name) = IsUnknown cells top cell name
+IsFirstTreeFault cells top (Cycle names) = IsKnown cells top × IsNamedCycle cells top names
+IsFirstTreeFault cells top (Deep names) = IsKnown cells top × IsAcyclic cells top × IsDeep cells top names
+IsFirstTreeFault cells top (Scale value names) = IsKnown cells top × IsAcyclic cells top × IsShallow cells top × IsScaled cells top value names
+IsFirstTreeFault cells top (Fixed value cell) = IsKnown cells top × IsAcyclic cells top × IsShallow cells top × IsMild cells top
     × IsEnlarged cells top value cell
-IsFirstFault cells top (Extent value) = IsKnown cells top × IsAcyclic cells top × IsShallow cells top × IsMild cells top
+IsFirstTreeFault cells top (Extent value) = IsKnown cells top × IsAcyclic cells top × IsShallow cells top × IsMild cells top
     × KeepsFixed cells top × IsExtent cells top value
-IsFirstFault cells top (Count cell value) = IsKnown cells top × IsAcyclic cells top × IsShallow cells top × IsMild cells top
-    × KeepsFixed cells top × IsNear cells top × IsCrowded cells top cell value
+IsFirstTreeFault cells top (Count cell value) = IsKnown cells top × IsAcyclic cells top × IsShallow cells top × IsMild cells top
+    × KeepsFixed cells top × AreVerticesNear cells top × IsCrowded cells top cell value
 
 -- the order in which they are looked for
 abbrev pub order_of : TreeBad → ℕ

@@ -30,8 +30,8 @@ abbrev pub KeepsFixed : List Cell → ℕ → Type 0
 KeepsFixed cells top = (links : List Link) → IsChain cells top links → HasFixed cells (chain_end top links) → chain_factor links ≤ 1
 
 -- each vertex is within 2^30 of 0 both ways
-abbrev pub IsNear : List Cell → ℕ → Type 0
-IsNear cells top = (pair : Pair) (p : Point) → IsVertex cells top pair p → IsWithin (2 ^ 30) p
+abbrev pub AreVerticesNear : List Cell → ℕ → Type 0
+AreVerticesNear cells top = (pair : Pair) (p : Point) → IsVertex cells top pair p → IsWithin (2 ^ 30) p
 
 -- there are at most 2^40 flattened shapes
 abbrev pub IsCounted : List Cell → ℕ → Type 0
@@ -43,7 +43,7 @@ pub record IsTree (cells : List Cell) (top : ℕ) : Type 0 where
   pub shallow : IsShallow cells top
   pub mild : IsMild cells top
   pub fixed : KeepsFixed cells top
-  pub near : IsNear cells top
+  pub near : AreVerticesNear cells top
   pub counted : IsCounted cells top
 
 -- a layout with the number of its top cell

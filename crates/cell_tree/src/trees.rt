@@ -8,8 +8,8 @@ ghost use Rattle.cell_tree.specs.Orders.{IsOrder};
 ghost use Rattle.cell_tree.specs.Searches.{IsFound};
 ghost use Rattle.cell_tree.specs.Flattening.{shape_count};
 ghost use Rattle.cell_tree.specs.HullTables.{extent_in};
-ghost use Rattle.cell_tree.specs.Trees.{IsKnown, IsAcyclic, IsShallow, IsMild, KeepsFixed, IsCounted, IsNear, IsTree};
-ghost use Rattle.cell_tree.specs.Faults.{IsFirstFault, order_of};
+ghost use Rattle.cell_tree.specs.Trees.{IsKnown, IsAcyclic, IsShallow, IsMild, KeepsFixed, IsCounted, AreVerticesNear, IsTree};
+ghost use Rattle.cell_tree.specs.Faults.{IsFirstTreeFault, order_of};
 ghost use Rattle.cell_tree.specs.declared.faults.TreeBad.{TreeBad as ABad};
 ghost use Rattle.cell_tree.specs.declared.faults.TreeBad.TheVariants.{NoTop};
 
@@ -153,7 +153,7 @@ impl Tree {
 fn ask_names(alloc: Global, linked: &Linked, found: &Found) -> Result<(), Refusal<TreeBad>>
     requires found { IsFound linked.now.cells found.now.top found.now.order.items found.now.cycle.items }
     ensures ok { OnOk result (IsKnown linked.now.cells found.now.top) }
-    ensures err { IfFault result (IsFirstFault linked.now.cells found.now.top) }
+    ensures err { IfFault result (IsFirstTreeFault linked.now.cells found.now.top) }
 {
     if let Some(place) = find_unknown(linked, found.order.as_slice()) {
         let cell = copy_of(alloc, &linked.cells()[place.cell].name)?;
@@ -171,7 +171,7 @@ fn ask_cycle(alloc: Global, linked: &Linked, found: &Found) -> Result<(), Refusa
     requires known { IsKnown linked.now.cells found.now.top }
     ensures ok { OnOk result (IsAcyclic linked.now.cells found.now.top) }
     ensures order { OnOk result (IsOrder linked.now.cells found.now.top found.now.order.items) }
-    ensures err { IfFault result (IsFirstFault linked.now.cells found.now.top) }
+    ensures err { IfFault result (IsFirstTreeFault linked.now.cells found.now.top) }
 {
     if found.cycle.is_empty() {
         return Ok(());
@@ -187,7 +187,7 @@ fn ask_depth(alloc: Global, linked: &Linked, found: &Found) -> Result<(), Refusa
     requires known { IsKnown linked.now.cells found.now.top }
     requires acyclic { IsAcyclic linked.now.cells found.now.top }
     ensures ok { OnOk result (IsShallow linked.now.cells found.now.top) }
-    ensures err { IfFault result (IsFirstFault linked.now.cells found.now.top) }
+    ensures err { IfFault result (IsFirstTreeFault linked.now.cells found.now.top) }
 {
     let heights = heights(alloc, linked, found.order.as_slice())?;
     if heights[found.top] < 65 {
@@ -207,7 +207,7 @@ fn ask_scale(alloc: Global, linked: &Linked, found: &Found) -> Result<(), Refusa
     requires acyclic { IsAcyclic linked.now.cells found.now.top }
     requires shallow { IsShallow linked.now.cells found.now.top }
     ensures ok { OnOk result (IsMild linked.now.cells found.now.top) }
-    ensures err { IfFault result (IsFirstFault linked.now.cells found.now.top) }
+    ensures err { IfFault result (IsFirstTreeFault linked.now.cells found.now.top) }
 {
     let farthest = farthest(alloc, linked, found.order.as_slice(), false)?;
     let Some(far) = farthest[found.top] else {
@@ -231,7 +231,7 @@ fn ask_fixed(alloc: Global, linked: &Linked, found: &Found) -> Result<(), Refusa
     requires shallow { IsShallow linked.now.cells found.now.top }
     requires mild { IsMild linked.now.cells found.now.top }
     ensures ok { OnOk result (KeepsFixed linked.now.cells found.now.top) }
-    ensures err { IfFault result (IsFirstFault linked.now.cells found.now.top) }
+    ensures err { IfFault result (IsFirstTreeFault linked.now.cells found.now.top) }
 {
     let farthest = farthest(alloc, linked, found.order.as_slice(), true)?;
     let Some(far) = farthest[found.top] else {
@@ -263,10 +263,10 @@ fn ask_count(alloc: Global, linked: &Linked, found: &Found) -> Result<u64, Refus
     requires shallow { IsShallow linked.now.cells found.now.top }
     requires mild { IsMild linked.now.cells found.now.top }
     requires fixed { KeepsFixed linked.now.cells found.now.top }
-    requires near { IsNear linked.now.cells found.now.top }
+    requires near { AreVerticesNear linked.now.cells found.now.top }
     ensures ok { OnOk result (IsCounted linked.now.cells found.now.top) }
     ensures count { IfOk result (λ count. count ≡ shape_count linked.now.cells found.now.top) }
-    ensures err { IfFault result (IsFirstFault linked.now.cells found.now.top) }
+    ensures err { IfFault result (IsFirstTreeFault linked.now.cells found.now.top) }
 {
     match count_shapes(alloc, linked, found.order.as_slice())? {
         Counted::Each(counts) => Ok(counts[found.top]),
@@ -285,7 +285,7 @@ fn tree_of(alloc: Global, linked: Linked, found: &Found) -> Result<Tree, Refusal
     ensures layout { IfOk result (λ tree. tree.layout ≡ linked) }
     ensures top { IfOk result (λ tree. tree.top ≡ found.now.top) }
     ensures tree { OnOk result (IsTree linked.cells found.now.top) }
-    ensures err { IfFault result (IsFirstFault linked.cells found.now.top) }
+    ensures err { IfFault result (IsFirstTreeFault linked.cells found.now.top) }
 {
     ask_names(alloc, &linked, found)?;
     ask_cycle(alloc, &linked, found)?;
@@ -325,10 +325,10 @@ pub fn resolve(alloc: Global, layout: Layout, top: &Name) -> Result<Tree, Refusa
 
     // Each refusal keeps what is there, and nothing that is looked for before it is there.
     ensures no_top { (result ≡ Err (Fault NoTop)) ↔ (cell_number layout.cells top.now ≡ None) }
-    ensures fault { (n : ℕ) → cell_number layout.cells top.now ≡ Some n → IfFault result (IsFirstFault layout.cells n) }
+    ensures fault { (n : ℕ) → cell_number layout.cells top.now ≡ Some n → IfFault result (IsFirstTreeFault layout.cells n) }
 
     // What is there first is what is answered, or want of memory.
-    ensures found { (n : ℕ) (bad : ABad) → cell_number layout.cells top.now ≡ Some n → IsFirstFault layout.cells n bad
+    ensures found { (n : ℕ) (bad : ABad) → cell_number layout.cells top.now ≡ Some n → IsFirstTreeFault layout.cells n bad
         → IsErrAnd result (IsForFault (λ answer. order_of answer ≡ order_of bad)) }
 
     // Where nothing that is refused is there, the layout is refused for want of memory alone.

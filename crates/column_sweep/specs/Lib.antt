@@ -1,9 +1,8 @@
--- ---- what is promised, in reading order
+-- ---- what is kept inside
 pub mod Sweeps
 pub mod ColumnLaws
 pub mod Operands
 pub mod RowSums
--- ---- what is kept inside
 pub mod Tries
 pub mod Looking
 pub mod Steps

@@ -17,7 +17,7 @@ use Rattle.layout_model.specs.declared.pair.Pair.{Pair}
 use Rattle.layout_model.specs.declared.cells.Cell.{Cell}
 use Rattle.cell_tree.specs.Flattening.{Flat, flattened, IsInLayer, IsVertex}
 use Rattle.cell_tree.specs.Boxes.{IsHull}
-use Rattle.cell_tree.specs.Trees.{IsNear}
+use Rattle.cell_tree.specs.Trees.{AreVerticesNear}
 use Rattle.bool_ops.specs.Operations.{IsInRows}
 use Rattle.deck_plan.specs.Bounds.{IsTileUpTo}
 use Rattle.deck_plan.specs.Extents.{IsInRowsOf, IsRowsUpTo, frame_rows}
@@ -87,7 +87,7 @@ module _ (cells : List Cell) (top : ℕ) (outlines : All (λ flat. IsOutline fla
   vertex : (p : Point) → Contains inside.1.points p → IsVertex cells top pair p
   vertex p c = (inside.0, inside.1, inside.2, inside.3, (inside.4.0, c))
 
-  pub layer_near : IsNear cells top → IsTileUpTo (2 ^ 30) t
+  pub layer_near : AreVerticesNear cells top → IsTileUpTo (2 ^ 30) t
   layer_near near = outline_near inside.1.points outline t inside.4.1 (λ p c. near pair p (vertex p c))
 
   in_frame_rows : (frame : Frame) → IsInRows (row_range frame.y0 frame.y1) t → IsInRowsOf (frame_rows frame) t
@@ -106,7 +106,7 @@ rows_if : (b : Bool) (window : RowRange) → IsRowsUpTo (2 ^ 30) window → IfSo
 rows_if true window h = h
 rows_if false window h = tt
 
-pub hull_near : (cells : List Cell) (top : ℕ) (pair : Pair) (frame : Frame) → IsNear cells top
+pub hull_near : (cells : List Cell) (top : ℕ) (pair : Pair) (frame : Frame) → AreVerticesNear cells top
     → IsHull (IsVertex cells top pair) (Some frame) → IfSome (frame_rows frame) (IsRowsUpTo (2 ^ 30))
 hull_near cells top pair frame near least =
     let b = least.bottom in

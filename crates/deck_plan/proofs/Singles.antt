@@ -12,7 +12,7 @@ use Rattle.square_size.specs.EdgeLaws.{IsInSome}
 use Rattle.tone_mirror.specs.Frames.{IsInFrame}
 use Rattle.tone_mirror.specs.Mirrors.{mirrored_tile, mirrored_trapezoid, HasImageWithinReach}
 use Rattle.tone_mirror.proofs.ForCallers.{image_x, images_have_count}
-use Rattle.deck_text.specs.Sound.{IsNear}
+use Rattle.deck_text.specs.Sound.{IsDeckCoordinate}
 use Rattle.bool_ops.specs.declared.operations.Op.TheVariants.{Or, Sub}
 use Rattle.bool_ops.specs.Operations.{IsJoinedOf, IsInResult}
 use Rattle.deck_plan.specs.Lists.{HasArea}
@@ -54,7 +54,7 @@ mirrored_has m traps images is window mirrored joined =
     (combined_has Or images [] window mirrored joined)
 
 -- near trapezoids have images within reach
-image_within : (m : ℤ) (z : Trapezoid) → IsNear m → HasCornersUpTo (2 ^ 42) z → HasImageWithinReach m z
+image_within : (m : ℤ) (z : Trapezoid) → IsDeckCoordinate m → HasCornersUpTo (2 ^ 42) z → HasImageWithinReach m z
 image_within m z near h =
     let l0 = image_x m z.left z.y0 in
     let r0 = image_x m z.right z.y0 in
@@ -69,5 +69,5 @@ image_within m z near h =
       top_right = record { low = omega (arith, ints, l1, near.low, h.top_left.high); high = omega (arith, ints, l1, near.high, h.top_left.low) };
     }
 
-pub images_within : (m : ℤ) (traps : List Trapezoid) → IsNear m → All (HasCornersUpTo (2 ^ 42)) traps → All (HasImageWithinReach m) traps
+pub images_within : (m : ℤ) (traps : List Trapezoid) → IsDeckCoordinate m → All (HasCornersUpTo (2 ^ 42)) traps → All (HasImageWithinReach m) traps
 images_within m traps near all = All-weaker (HasCornersUpTo (2 ^ 42)) (HasImageWithinReach m) (λ z h. image_within m z near h) traps all

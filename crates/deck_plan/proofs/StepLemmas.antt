@@ -20,7 +20,7 @@ use Rattle.bool_ops.specs.Operations.{IsInRows}
 use Rattle.deck_text.specs.declared.deck.Step.{Step}
 use Rattle.deck_text.specs.declared.deck.Step.TheVariants.{Layer, Or, And, Sub, Xor, Grow, Shrink, Invert, Mirror}
 use Rattle.deck_text.specs.declared.deck.Deck.{Deck}
-use Rattle.deck_text.specs.Sound.{IsSoundStep, AreSides, IsFrame, IsNear as IsNearLine}
+use Rattle.deck_text.specs.Sound.{IsSoundStep, AreSides, IsFrame, IsDeckCoordinate as IsNearLine}
 use Rattle.deck_plan.specs.Areas.{IsInStep, area_over, IsInArea}
 use Rattle.deck_plan.specs.declared.needs.Taken.{Taken}
 use Rattle.deck_plan.specs.Needs.{taken, operands_of, widened}

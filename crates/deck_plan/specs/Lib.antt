@@ -1,9 +1,9 @@
 -- ---- what is promised, in reading order
 pub mod Areas
-pub mod Plans
-pub mod Needs
 pub mod Bands
+pub mod Plans
 -- ---- what is kept inside
+pub mod Needs
 pub mod Lists
 pub mod Images
 pub mod Bounds

@@ -12,7 +12,8 @@ use Rattle.bool_ops.specs.Operations.{IsJoinedOf}
 use Rattle.deck_text.specs.Decks.{IsDeck}
 use Rattle.deck_text.specs.declared.deck.Deck.{Deck}
 use Rattle.cell_tree.specs.Trees.{Rooted}
-use Rattle.deck_plan.specs.Areas.{IsInBand}
+use Rattle.half_grid.specs.declared.plane.Tile.{Tile}
+use Rattle.deck_plan.specs.Areas.{IsInBand, IsInOutput}
 
 pub record Planned : Type 0 where
   pub deck : Deck
@@ -21,6 +22,10 @@ pub record Planned : Type 0 where
 
 abbrev pub planned : Deck → Rooted → Planned
 planned deck tree = record { deck = deck; cells = tree.layout.cells; top = tree.top }
+
+-- the area of output k
+abbrev pub planned_area : Planned → ℕ → Tile → Type 0
+planned_area p k t = IsInOutput p.cells p.top p.deck k t
 
 -- the joined list, of shots, of what output k of a plan has in the rows of a band
 pub record IsBandOf (p : Planned) (k : ℕ) (band : RowRange) (traps : List Trapezoid) : Type 0 where

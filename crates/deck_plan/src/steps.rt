@@ -6,7 +6,7 @@ ghost use Rattle.half_grid.specs.Trapezoids.{Trapezoid};
 ghost use Rattle.square_size.specs.EdgeLaws.{IsInSome};
 ghost use Rattle.tone_mirror.specs.Frames.{IsFrame, IsInFrame};
 ghost use Rattle.tone_mirror.specs.Mirrors.{mirrored_tile};
-ghost use Rattle.deck_text.specs.Sound.{IsNear};
+ghost use Rattle.deck_text.specs.Sound.{IsDeckCoordinate};
 ghost use Rattle.deck_plan.specs.Lists.{HasArea, IsJoinedSomewhere, OfBoth};
 ghost use Rattle.deck_plan.specs.Bounds.{HasCornersUpTo};
 
@@ -63,7 +63,7 @@ pub(crate) fn mirrored_area(
 ) -> Result<Vec<Trap>, NoMemory>
     requires joined { IsJoinedSomewhere traps.now }
     requires near { All (HasCornersUpTo (2 ^ 42)) traps.now }
-    requires at { IsNear m }
+    requires at { IsDeckCoordinate m }
     ensures { IfOk result (λ mirrored. HasArea window (λ t. IsInSome traps.now (mirrored_tile m t)) mirrored.items) }
 {
     if lie_in(traps, window) {

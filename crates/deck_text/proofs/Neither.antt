@@ -7,7 +7,7 @@ use Rattle.deck_text.specs.Lines.{lines_of}
 use Rattle.deck_text.specs.Statements.{Passed, Refused, Says, Said}
 use Rattle.deck_text.specs.Forms.{reading}
 use Rattle.deck_text.specs.Rules.{bound, broken_rule}
-use Rattle.deck_text.specs.Decks.{saids_from, AreAccepted, IsRefusedAt, HasNoOutput, has_output, setting_in, unit_of}
+use Rattle.deck_text.specs.Decks.{saids_from, AreAccepted, IsLineRefusedAt, HasNoOutput, has_output, setting_in, unit_of}
 use Rattle.deck_text.specs.Decks.{top_of, band_of, limits_of, limits, frame_of, steps_of, outputs_of, IsDeckOf}
 use Rattle.deck_text.specs.Laws.{NeverNeither}
 use Rattle.deck_text.specs.declared.deck.Deck.{Deck}
@@ -50,7 +50,7 @@ deck_from saids None top each unit_is top_is a b = absurd (false≢true a)
 abbrev IsRead : (layout deck : List ℕ) → List (List ℕ) → Type 0
 IsRead layout deck ls =
     ((d : Deck) × AreAccepted layout deck ls (length ls) × (has_output (saids_from 1 ls) ≡ true) × IsDeckOf (saids_from 1 ls) d)
-    ⊎ ((bad : DeckBad) × (((n : ℕ) × IsRefusedAt layout deck ls n bad) ⊎ HasNoOutput layout deck ls bad))
+    ⊎ ((bad : DeckBad) × (((n : ℕ) × IsLineRefusedAt layout deck ls n bad) ⊎ HasNoOutput layout deck ls bad))
 
 all_read : (layout deck : List ℕ) (ls : List (List ℕ)) (n : ℕ) (saids : List Said) → IsReadAll layout deck ls n saids → IsRead layout deck ls
 all_read layout deck ls n saids u =

@@ -9,7 +9,7 @@ use Rattle.half_grid.specs.declared.extent.Frame.{Frame}
 use Rattle.deck_text.specs.Statements.{Statement, Sets, Defines, Writes, UnitIs, TopIs, BandIs, LimitsAre, FrameIs}
 use Rattle.deck_text.specs.Rules.{Bound, bound, is_outside, first_outside, within_reach, above, narrow, bounds_of, out_of_range}
 use Rattle.deck_text.specs.Decks.{band_of, limits_of, limits, frame_of, frame, pair}
-use Rattle.deck_text.specs.Sound.{IsNear, IsNarrow, AreSides, IsFrame, AreLimits}
+use Rattle.deck_text.specs.Sound.{IsDeckCoordinate, IsNarrow, AreSides, IsFrame, AreLimits}
 use Rattle.deck_text.proofs.RangeLemmas.{IsInside, is_inside, inside_split, same_some}
 
 pub range_of : (s : Statement) → out_of_range s ≡ first_outside (bounds_of s)
@@ -58,13 +58,13 @@ limits_range (Sets (FrameIs x0 y0 x1 y1)) l h e = absurd cc
 limits_range (Defines name operation) l h e = absurd cc
 limits_range (Writes a file layer datatype) l h e = absurd cc
 
-near : (x : ℤ) → IsInside (within_reach x) → IsNear x
+near : (x : ℤ) → IsInside (within_reach x) → IsDeckCoordinate x
 near x h = record { low = h.low; high = h.high }
 
 less : (x y : ℤ) → (x +ℤ pos 1) ≤ℤ y → x <ℤ y
 less x y h = omega (arith, ints)
 
-below : (x y : ℤ) → IsInside (within_reach x) → IsInside (above x y) → IsNear y
+below : (x y : ℤ) → IsInside (within_reach x) → IsInside (above x y) → IsDeckCoordinate y
 below x y h g = record { low = omega (arith, ints, h.low, g.low); high = g.high }
 
 frame_is : (x0 y0 x1 y1 : ℤ) → first_outside (within_reach x0 ∷ within_reach y0 ∷ above x0 x1 ∷ above y0 y1 ∷ []) ≡ None → IsFrame (frame x0 y0 x1 y1)
@@ -114,5 +114,5 @@ even_sides dx dy h e =
     not_odd true e = refl
     not_odd false e = absurd (false≢true (sym e))
 
-pub near_mirror : (m : ℤ) → first_outside (within_reach m ∷ []) ≡ None → IsNear m
+pub near_mirror : (m : ℤ) → first_outside (within_reach m ∷ []) ≡ None → IsDeckCoordinate m
 near_mirror m h = near m (is_inside (within_reach m) (inside_split (within_reach m) [] (is_outside (within_reach m)) refl h).0)

@@ -9,7 +9,7 @@ use Rattle.std.proofs.lemmas.List.Folds.{list_any-append}
 use Rattle.deck_text.specs.Statements.{Statement, Sets, Defines, Writes, UnitIs, TopIs, BandIs, LimitsAre, FrameIs, Reading, Passed, Refused, Says, Said}
 use Rattle.deck_text.specs.Forms.{reading}
 use Rattle.deck_text.specs.Rules.{is_setting, is_output, is_unit, is_top, any_before, is_misplaced, broken_rule}
-use Rattle.deck_text.specs.Decks.{said, said_first, saids_from, refusal, refusal_after, AreAccepted, IsRefusedAt}
+use Rattle.deck_text.specs.Decks.{said, said_first, saids_from, refusal, refusal_after, AreAccepted, IsLineRefusedAt}
 use Rattle.deck_text.specs.Decks.{HasNoOutput, has_output, first_or, setting_in, unit_of, top_of}
 use Rattle.deck_text.specs.Begun.{IsBegun}
 use Rattle.deck_text.proofs.RuleLemmas.{by_order}
@@ -229,7 +229,7 @@ why layout deck ls n saids line r o e f h = rw (← e, f) h
 
 pub refused_next : (layout deck : List ℕ) (ls : List (List ℕ)) (n : ℕ) (saids : List Said) (line : List ℕ)
     (more : List (List ℕ)) (r : Reading) (bad : DeckBad) → IsReadUpTo layout deck ls n saids
-    → drop n ls ≡ line ∷ more → reading line ≡ r → refusal layout deck saids (n + 1) r ≡ Some bad → IsRefusedAt layout deck ls n bad
+    → drop n ls ≡ line ∷ more → reading line ≡ r → refusal layout deck saids (n + 1) r ≡ Some bad → IsLineRefusedAt layout deck ls n bad
 refused_next layout deck ls n saids line more r bad u e f h = record {
   line = line;
   there = line_there ls n line more e;

@@ -10,7 +10,7 @@ use Rattle.half_grid.specs.declared.shot.Limits.{Limits}
 use Rattle.half_grid.specs.declared.extent.Frame.{Frame}
 use Rattle.deck_text.specs.Lines.{lines_of}
 use Rattle.deck_text.specs.Statements.{Said}
-use Rattle.deck_text.specs.Decks.{refusal_after, AreAccepted, IsRefusedAt, IsFirstFault, IsDeckOf, IsDeck, saids_from, setting_in, unit_of, top_of}
+use Rattle.deck_text.specs.Decks.{refusal_after, AreAccepted, IsLineRefusedAt, IsFirstDeckFault, IsDeckOf, IsDeck, saids_from, setting_in, unit_of, top_of}
 use Rattle.deck_text.specs.declared.refusal.DeckBad.{DeckBad}
 use Rattle.deck_text.specs.declared.deck.Deck.{Deck}
 use Rattle.deck_text.specs.declared.deck.Step.{Step}
@@ -25,7 +25,7 @@ none_bad : (o : Option DeckBad) (bad : DeckBad) → o ≡ None → o ≡ Some ba
 none_bad o bad e f = let clash : ⊥ = cc in clash
 
 -- a line that is refused is none of the accepted ones
-past_accepted : (layout deck : List ℕ) (ls : List (List ℕ)) (n k : ℕ) (bad : DeckBad) → AreAccepted layout deck ls k → IsRefusedAt layout deck ls n bad → k ≤ n
+past_accepted : (layout deck : List ℕ) (ls : List (List ℕ)) (n k : ℕ) (bad : DeckBad) → AreAccepted layout deck ls k → IsLineRefusedAt layout deck ls n bad → k ≤ n
 past_accepted layout deck ls n k bad h r = elim (cases_lt n k) [
   | inl lt ↦ absurd (none_bad (refusal_after layout deck ls n r.line) bad (h n r.line lt r.there) r.why)
   | inr le ↦ le
@@ -35,7 +35,7 @@ same_line : (a b : List ℕ) → Some a ≡ Some b → a ≡ b
 same_line a b e = cc
 
 at_same : (layout deck : List ℕ) (ls : List (List ℕ)) (n m : ℕ) (bad other : DeckBad) → n ≡ m
-    → IsRefusedAt layout deck ls n bad → IsRefusedAt layout deck ls m other → bad ≡ other
+    → IsLineRefusedAt layout deck ls n bad → IsLineRefusedAt layout deck ls m other → bad ≡ other
 at_same layout deck ls n m bad other e r s =
     let here : slice_get ls m ≡ Some r.line = rw (← e) r.there in
     let line : r.line ≡ s.line = same_line r.line s.line (sym here ∙ s.there) in
@@ -43,23 +43,23 @@ at_same layout deck ls n m bad other e r s =
     some_bad bad other (sym own ∙ s.why)
 
 one_refused : (layout deck : List ℕ) (ls : List (List ℕ)) (n m : ℕ) (bad other : DeckBad)
-    → IsRefusedAt layout deck ls n bad → IsRefusedAt layout deck ls m other → bad ≡ other
+    → IsLineRefusedAt layout deck ls n bad → IsLineRefusedAt layout deck ls m other → bad ≡ other
 one_refused layout deck ls n m bad other r s =
     let first = past_accepted layout deck ls m n other r.before s in
     let second = past_accepted layout deck ls n m bad s.before r in
     let same : n ≡ m = omega (arith, first, second) in
     at_same layout deck ls n m bad other same r s
 
-not_all : (layout deck : List ℕ) (ls : List (List ℕ)) (n : ℕ) (bad : DeckBad) → AreAccepted layout deck ls (length ls) → IsRefusedAt layout deck ls n bad → ⊥
+not_all : (layout deck : List ℕ) (ls : List (List ℕ)) (n : ℕ) (bad : DeckBad) → AreAccepted layout deck ls (length ls) → IsLineRefusedAt layout deck ls n bad → ⊥
 not_all layout deck ls n bad h r = none_bad (refusal_after layout deck ls n r.line) bad (h n r.line (slice_get_within ls n r.line r.there) r.there) r.why
 
-pub one_fault : (bytes layout deck : List ℕ) (bad other : DeckBad) → IsFirstFault bytes layout deck bad → IsFirstFault bytes layout deck other → bad ≡ other
+pub one_fault : (bytes layout deck : List ℕ) (bad other : DeckBad) → IsFirstDeckFault bytes layout deck bad → IsFirstDeckFault bytes layout deck other → bad ≡ other
 one_fault bytes layout deck bad other (inl r) (inl s) = one_refused layout deck (lines_of bytes) r.0 s.0 bad other r.1 s.1
 one_fault bytes layout deck bad other (inl r) (inr s) = absurd (not_all layout deck (lines_of bytes) r.0 bad s.accepted r.1)
 one_fault bytes layout deck bad other (inr r) (inl s) = absurd (not_all layout deck (lines_of bytes) s.0 other r.accepted s.1)
 one_fault bytes layout deck bad other (inr r) (inr s) = r.order ∙ sym s.order
 
-pub never_both : (bytes layout deck : List ℕ) (d : Deck) (bad : DeckBad) → IsDeck bytes layout deck d → IsFirstFault bytes layout deck bad → ⊥
+pub never_both : (bytes layout deck : List ℕ) (d : Deck) (bad : DeckBad) → IsDeck bytes layout deck d → IsFirstDeckFault bytes layout deck bad → ⊥
 never_both bytes layout deck d bad h (inl r) = not_all layout deck (lines_of bytes) r.0 bad h.accepted r.1
 never_both bytes layout deck d bad h (inr r) = false≢true (sym r.none ∙ h.some)
 
@@ -99,15 +99,15 @@ one_deck bytes layout deck d e h g = deck_of_one (saids_from 1 (lines_of bytes))
 
 -- the answer of a refusal to bytes that have a first fault
 pub told_fault : (bytes layout deck : List ℕ) (r : Result Deck (Refusal DeckBad)) (own : Refusal DeckBad) → r ≡ Err own
-    → IsForFault (IsFirstFault bytes layout deck) own
-    → (bad : DeckBad) → IsFirstFault bytes layout deck bad → (r ≡ Err (refusals.Fault bad)) ⊎ (r ≡ Err refusals.NoMemory)
+    → IsForFault (IsFirstDeckFault bytes layout deck) own
+    → (bad : DeckBad) → IsFirstDeckFault bytes layout deck bad → (r ≡ Err (refusals.Fault bad)) ⊎ (r ≡ Err refusals.NoMemory)
 told_fault bytes layout deck r (refusals.Fault own) e h bad f =
     inl (e ∙ ap (λ (b : DeckBad). Err (refusals.Fault b)) (one_fault bytes layout deck own bad h f))
 told_fault bytes layout deck r refusals.NoMemory e h bad f = inr e
 
 -- and to bytes that are a deck
 pub told_deck : (bytes layout deck : List ℕ) (r : Result Deck (Refusal DeckBad)) (own : Refusal DeckBad) → r ≡ Err own
-    → IsForFault (IsFirstFault bytes layout deck) own
+    → IsForFault (IsFirstDeckFault bytes layout deck) own
     → (d : Deck) → IsDeck bytes layout deck d → (r ≡ Ok d) ⊎ (r ≡ Err refusals.NoMemory)
 told_deck bytes layout deck r (refusals.Fault own) e h d g = absurd (never_both bytes layout deck d own g h)
 told_deck bytes layout deck r refusals.NoMemory e h d g = inr e

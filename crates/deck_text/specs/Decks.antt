@@ -57,7 +57,7 @@ AreAccepted layout deck lines n =
     (i : ℕ) (line : List ℕ) → i < n → slice_get lines i ≡ Some line → refusal_after layout deck lines i line ≡ None
 
 -- the line after the first n lines is the first that is refused, and bad says why
-pub record IsRefusedAt (layout deck : List ℕ) (lines : List (List ℕ)) (n : ℕ) (bad : DeckBad) : Type 0 where
+pub record IsLineRefusedAt (layout deck : List ℕ) (lines : List (List ℕ)) (n : ℕ) (bad : DeckBad) : Type 0 where
   pub line : List ℕ
   pub there : slice_get lines n ≡ Some line
   pub why : refusal_after layout deck lines n line ≡ Some bad
@@ -73,9 +73,9 @@ pub record HasNoOutput (layout deck : List ℕ) (lines : List (List ℕ)) (bad :
   pub order : bad ≡ faults.Order (length lines + 1)
 
 -- the first fault of bytes that are no deck, where the command gives these names of layout and deck
-abbrev pub IsFirstFault : (bytes layout deck : List ℕ) → DeckBad → Type 0
-IsFirstFault bytes layout deck bad =
-    ((n : ℕ) × IsRefusedAt layout deck (lines_of bytes) n bad) ⊎ HasNoOutput layout deck (lines_of bytes) bad
+abbrev pub IsFirstDeckFault : (bytes layout deck : List ℕ) → DeckBad → Type 0
+IsFirstDeckFault bytes layout deck bad =
+    ((n : ℕ) × IsLineRefusedAt layout deck (lines_of bytes) n bad) ⊎ HasNoOutput layout deck (lines_of bytes) bad
 
 -- ---- settings
 

@@ -1,14 +1,14 @@
 -- ---- what is promised, in reading order
-pub mod Lines
-pub mod Tokens
 pub mod Kinds
-pub mod Statements
-pub mod Forms
-pub mod Rules
 pub mod Decks
+pub mod Lines
+pub mod Statements
+pub mod Rules
+pub mod Forms
+pub mod Tokens
+-- ---- what is kept inside
 pub mod Laws
 pub mod Sound
--- ---- what is kept inside
 pub mod Views
 pub mod SaidViews
 pub mod Begun

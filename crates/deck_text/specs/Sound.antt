@@ -13,7 +13,7 @@ use Rattle.deck_text.specs.declared.deck.Output.{Output}
 use Rattle.deck_text.specs.declared.deck.Deck.{Deck}
 
 -- within 2^30 of 0
-pub record IsNear (x : ℤ) : Type 0 where
+pub record IsDeckCoordinate (x : ℤ) : Type 0 where
   pub low : neg_ℤ (pos 1073741824) ≤ℤ x
   pub high : x ≤ℤ pos 1073741824
 
@@ -31,10 +31,10 @@ pub record AreSides (dx dy : ℤ) : Type 0 where
   pub even : is_even (dx +ℤ dy) ≡ true
 
 pub record IsFrame (f : Frame) : Type 0 where
-  pub x0 : IsNear f.x0
-  pub y0 : IsNear f.y0
-  pub x1 : IsNear f.x1
-  pub y1 : IsNear f.y1
+  pub x0 : IsDeckCoordinate f.x0
+  pub y0 : IsDeckCoordinate f.y0
+  pub x1 : IsDeckCoordinate f.x1
+  pub y1 : IsDeckCoordinate f.y1
   pub columns : f.x0 <ℤ f.x1
   pub rows : f.y0 <ℤ f.y1
 
@@ -54,7 +54,7 @@ IsSoundStep frame k (steps.Xor a b) = (a < k) × (b < k)
 IsSoundStep frame k (steps.Grow a dx dy) = (a < k) × AreSides dx dy
 IsSoundStep frame k (steps.Shrink a dx dy) = (a < k) × AreSides dx dy
 IsSoundStep frame k (steps.Invert a) = (a < k) × IsSome frame
-IsSoundStep frame k (steps.Mirror a m) = (a < k) × IsNear m
+IsSoundStep frame k (steps.Mirror a m) = (a < k) × IsDeckCoordinate m
 
 -- an output after so many steps
 pub record IsSoundOutput (layout deck : List ℕ) (count : ℕ) (o : Output) : Type 0 where

@@ -4,7 +4,7 @@ ghost use Rattle.geo_stream.specs.Refusals.{IsForFault, IfFault};
 ghost use Rattle.geo_stream.specs.declared.refusal.Refusal.TheVariants.{Fault, NoMemory};
 ghost use Rattle.deck_text.specs.Lines.{lines_of};
 ghost use Rattle.deck_text.specs.Rules.{broken_rule};
-ghost use Rattle.deck_text.specs.Decks.{AreAccepted, has_output, said, saids_from, IsFirstFault, IsDeck};
+ghost use Rattle.deck_text.specs.Decks.{AreAccepted, has_output, said, saids_from, IsFirstDeckFault, IsDeck};
 ghost use Rattle.deck_text.specs.Begun.{IsBegun};
 ghost use Rattle.deck_text.specs.Indexes.{IsIndexOf, HasRoom, HasNewName};
 ghost use Rattle.deck_text.specs.Views.{statement_view};
@@ -111,7 +111,7 @@ fn statements<'a>(
     ensures accepted { OnOk result (AreAccepted names.entry.layout.now names.entry.deck.now (lines_of bytes.now) (length (lines_of bytes.now))) }
     ensures some { OnOk result (has_output (saids_from 1 (lines_of bytes.now)) ≡ true) }
     ensures begun { OnOk result (IsBegun (saids_from 1 (lines_of bytes.now))) }
-    ensures refused { IfFault result (IsFirstFault bytes.now names.entry.layout.now names.entry.deck.now) }
+    ensures refused { IfFault result (IsFirstDeckFault bytes.now names.entry.layout.now names.entry.deck.now) }
 {
     let mut saids = Vec::new(alloc);
     let mut index = Index::new(alloc);
@@ -151,8 +151,8 @@ pub fn read_deck(
     requires { length bytes.now ≤ 65536 }
     ensures found { IfOk result (IsDeck bytes.now layout.now deck.now) }
     ensures read { (d : Deck) → IsDeck bytes.now layout.now deck.now d → (result ≡ Ok d) ⊎ (result ≡ Err NoMemory) }
-    ensures first_fault { IfFault result (IsFirstFault bytes.now layout.now deck.now) }
-    ensures every_fault { (bad : DeckBad) → IsFirstFault bytes.now layout.now deck.now bad → (result ≡ Err (Fault bad)) ⊎ (result ≡ Err NoMemory) }
+    ensures first_fault { IfFault result (IsFirstDeckFault bytes.now layout.now deck.now) }
+    ensures every_fault { (bad : DeckBad) → IsFirstDeckFault bytes.now layout.now deck.now bad → (result ≡ Err (Fault bad)) ⊎ (result ≡ Err NoMemory) }
 {
     let lines = statements(alloc, bytes, Names { layout, deck })?;
     let deck = deck_of(alloc, lines.saids.as_slice(), &lines.index)?;

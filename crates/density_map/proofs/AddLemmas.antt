@@ -4,7 +4,7 @@ use Rattle.std.proofs.lemmas.Int.{ints, by_lt_z}
 use Rattle.half_grid.specs.Trapezoids.{Trapezoid}
 use Rattle.half_grid.proofs.ForCallers.{int_eq_same, int_eq_other}
 use Rattle.density_map.specs.declared.counts.Counted.{Counted}
-use Rattle.density_map.specs.Frames.{IsNear, count_in_frame}
+use Rattle.density_map.specs.Frames.{IsNearSide, count_in_frame}
 use Rattle.density_map.specs.Windows.{IsWindowSize, window}
 use Rattle.density_map.specs.Counts.{IsCountedMore, count_at, tiles_at}
 use Rattle.density_map.specs.Rows.{AreColumnsOf, AreAdded, counted_in, least_x, greatest_x}
@@ -114,13 +114,13 @@ all_added size row start first end z old now h columns before last i =
 -- ---- the sides of the next window
 
 pub side_near : (size first end : ℤ) → IsWindowSize size → neg_ℤ (pos (2 ^ 45)) ≤ℤ (first *ℤ size)
-    → ((end -ℤ pos 1) *ℤ size) ≤ℤ pos (2 ^ 44) → first <ℤ end → IsNear (first *ℤ size)
+    → ((end -ℤ pos 1) *ℤ size) ≤ℤ pos (2 ^ 44) → first <ℤ end → IsNearSide (first *ℤ size)
 side_near size first end h low high less =
     let up = multiples first (end -ℤ pos 1) size (positive size h) (omega (arith, ints, less)) in
     record { low = low; high = omega (arith, ints, up, high) }
 
 pub next_near : (size first end : ℤ) → IsWindowSize size → neg_ℤ (pos (2 ^ 45)) ≤ℤ (first *ℤ size)
-    → ((end -ℤ pos 1) *ℤ size) ≤ℤ pos (2 ^ 44) → first <ℤ end → IsNear ((first +ℤ pos 1) *ℤ size)
+    → ((end -ℤ pos 1) *ℤ size) ≤ℤ pos (2 ^ 44) → first <ℤ end → IsNearSide ((first +ℤ pos 1) *ℤ size)
 next_near size first end h low high less =
     let up = multiples first (end -ℤ pos 1) size (positive size h) (omega (arith, ints, less)) in
     let e = next_side first size in

@@ -7,7 +7,7 @@ use Rattle.std.proofs.Math.Nat.{mod-lt, div-le_self}
 use Rattle.std.proofs.lemmas.Nat.{div-add-mod'}
 use Rattle.std.specs.Int.{int_gap, int_div_euclid}
 use Rattle.half_grid.specs.declared.extent.Frame.{Frame}
-use Rattle.density_map.specs.Frames.{IsNear, IsNearFrame}
+use Rattle.density_map.specs.Frames.{IsNearSide, IsNearFrame}
 use Rattle.density_map.specs.Windows.{IsWindowSize, IsRowWithinReach, window}
 use borrow.Author.Differences.{up, down}
 
@@ -46,16 +46,16 @@ floor_high (negsuc a) n some =
     let product : suc (a / n) * n ≡ n + a / n * n = omega arith in
     omega (arith, ints, e, product)
 
-floor_near : (a : ℤ) (n : ℕ) → IsNear a → IsNear (int_div_euclid a (pos n))
+floor_near : (a : ℤ) (n : ℕ) → IsNearSide a → IsNearSide (int_div_euclid a (pos n))
 floor_near (pos a) n h = let q = div-le_self a n in record { low = omega (arith, ints); high = omega (arith, ints, q, h.high) }
 floor_near (negsuc a) n h = let q = div-le_self a n in record { low = omega (arith, ints, q, h.low); high = omega (arith, ints) }
 
 pub record IsFloor (size x q : ℤ) : Type 0 where
   pub from : (q *ℤ size) ≤ℤ x
   pub below : x <ℤ ((q +ℤ pos 1) *ℤ size)
-  pub near : IsNear q
+  pub near : IsNearSide q
 
-floor_by : (size x : ℤ) → pos 0 <ℤ size → IsNear x → IsFloor size x (int_div_euclid x size)
+floor_by : (size x : ℤ) → pos 0 <ℤ size → IsNearSide x → IsFloor size x (int_div_euclid x size)
 floor_by (pos n) x some near = record {
   from = floor_low x n (omega (arith, ints, some));
   below = subst (λ (z : ℤ). x <ℤ z) (sym (next_side (int_div_euclid x (pos n)) (pos n))) (floor_high x n (omega (arith, ints, some)));
@@ -63,7 +63,7 @@ floor_by (pos n) x some near = record {
 }
 floor_by (negsuc n) x some near = absurd (omega (arith, ints, some))
 
-pub floor_is : (size x q : ℤ) → IsWindowSize size → IsNear x → q ≡ int_div_euclid x size → IsFloor size x q
+pub floor_is : (size x q : ℤ) → IsWindowSize size → IsNearSide x → q ≡ int_div_euclid x size → IsFloor size x q
 floor_is size x q h near e = subst (λ (z : ℤ). IsFloor size x z) (sym e) (floor_by size x (omega (arith, ints, h.low)) near)
 
 -- each number lies in some window
@@ -109,7 +109,7 @@ pub window_is : (size column row x0 y0 x1 y1 : ℤ) → x0 ≡ column *ℤ size 
 window_is size column row x0 y0 x1 y1 e f g h =
     rw (g ∙ ap (λ (z : ℤ). z +ℤ size) e ∙ sym (next_side column size), h ∙ ap (λ (z : ℤ). z +ℤ size) f ∙ sym (next_side row size), e, f) refl
 
-pub window_near : (size column row : ℤ) → IsWindowSize size → IsRowWithinReach size row → IsNear (column *ℤ size) → IsNear ((column +ℤ pos 1) *ℤ size)
+pub window_near : (size column row : ℤ) → IsWindowSize size → IsRowWithinReach size row → IsNearSide (column *ℤ size) → IsNearSide ((column +ℤ pos 1) *ℤ size)
     → IsNearFrame (let r : Frame = record { x0 = column *ℤ size; y0 = row *ℤ size; x1 = (column *ℤ size) +ℤ size; y1 = (row *ℤ size) +ℤ size } in r)
 window_near size column row h reach left right =
     let next_x = next_side column size in

@@ -13,7 +13,7 @@ use Rattle.half_grid.specs.declared.plane.Side.TheVariants.{Left, Right}
 use Rattle.half_grid.specs.declared.plane.Tile.{Tile}
 use Rattle.half_grid.proofs.ForCallers.{int_eq_true, int_eq_same}
 use Rattle.density_map.specs.Frames.{IsInFrame, natural, row_tiles, rows_tiles, frame_tiles, count_in_frame}
-use Rattle.density_map.specs.Windows.{IsInWindow, IsWindowCount, window, window_sum}
+use Rattle.density_map.specs.Windows.{IsTakenInWindow, IsWindowCount, window, window_sum}
 use Rattle.density_map.specs.Rows.{AreApart}
 use Rattle.density_map.specs.Laws.{EachTileOnce, NoOtherTile, SumIsCount, OneMore}
 use Rattle.density_map.proofs.Numbers.{natural_is, natural_none}
@@ -237,7 +237,7 @@ sum_is_count area size i j zs apart same =
       count = kept_length (λ (t : Tile). is_one (count_in zs t)) (frame_tiles f) ∙ count_is_sum zs (frame_tiles f) apart ∙ sym (window_sum_is size i j zs);
     }
   where
-    never_by : (t : Tile) (b : Bool) → is_one (count_in zs t) ≡ b → (IsInWindow area size i j t → ⊥)
+    never_by : (t : Tile) (b : Bool) → is_one (count_in zs t) ≡ b → (IsTakenInWindow area size i j t → ⊥)
         → count_by (is_tile t) (kept (λ (t : Tile). is_one (count_in zs t)) (frame_tiles (window size i j))) ≡ 0
     never_by t true e out =
         kept_all (λ (t : Tile). is_one (count_in zs t)) t (frame_tiles (window size i j)) e

@@ -13,16 +13,16 @@ pub record IsInFrame (frame : Frame) (t : Tile) : Type 0 where
   pub below_top : t.j <ℤ frame.y1
 
 -- at most twice the reach from 0
-pub record IsNear (z : ℤ) : Type 0 where
+pub record IsNearSide (z : ℤ) : Type 0 where
   pub low : neg_ℤ (pos (2 ^ 45)) ≤ℤ z
   pub high : z ≤ℤ pos (2 ^ 45)
 
 -- all four sides are
 pub record IsNearFrame (frame : Frame) : Type 0 where
-  pub x0 : IsNear frame.x0
-  pub y0 : IsNear frame.y0
-  pub x1 : IsNear frame.x1
-  pub y1 : IsNear frame.y1
+  pub x0 : IsNearSide frame.x0
+  pub y0 : IsNearSide frame.y0
+  pub x1 : IsNearSide frame.x1
+  pub y1 : IsNearSide frame.y1
 
 -- a number of columns or rows, which is none where it would be negative
 abbrev pub natural : ℤ → ℕ

@@ -1,8 +1,8 @@
 -- ---- what is promised, in reading order
-pub mod Frames
 pub mod Windows
+pub mod Frames
+-- ---- what is kept inside
 pub mod Counts
 pub mod Rows
 pub mod Laws
--- ---- what is kept inside
 pub mod Wedges

@@ -3,8 +3,8 @@
 -- The window (i, j) of a size has the columns from i times the size up to below i + 1 times the size, and the rows
 -- from j times the size up to below j + 1 times the size. Its count is the number of the area's tiles in it: some list
 -- of this length has each of these tiles once, and no other tile.
-use Rattle.std.specs.Prelude.{ℕ, ℤ, pos, ◌≡◌, ◌+ℤ◌, ◌*ℤ◌, ◌≤ℤ◌, neg_ℤ, ◌^◌, List, count_by, length, sum_by}
-use Rattle.half_grid.specs.Sizes.{is_tile}
+use Rattle.std.specs.Prelude.{ℕ, ℤ, pos, ◌≡◌, ◌+ℤ◌, ◌*ℤ◌, ◌≤ℤ◌, neg_ℤ, ◌^◌, List, sum_by}
+use Rattle.half_grid.specs.Sizes.{IsNumberIn}
 use Rattle.half_grid.specs.Trapezoids.{Trapezoid}
 use Rattle.half_grid.specs.declared.extent.Frame.{Frame}
 use Rattle.half_grid.specs.declared.plane.Tile.{Tile}
@@ -24,20 +24,13 @@ pub record IsRowWithinReach (size row : ℤ) : Type 0 where
   pub high : ((row +ℤ pos 1) *ℤ size) ≤ℤ pos (2 ^ 44)
 
 -- the tile is one of the area in the window
-pub record IsInWindow (area : Tile → Type 0) (size i j : ℤ) (t : Tile) : Type 0 where
+pub record IsTakenInWindow (area : Tile → Type 0) (size i j : ℤ) (t : Tile) : Type 0 where
   pub inside : IsInFrame (window size i j) t
   pub taken : area t
 
--- the number of an area's tiles
-pub record IsNumberIn (area : Tile → Type 0) (n : ℕ) : Type 0 where
-  pub tiles : List Tile
-  pub once : (t : Tile) → area t → count_by (is_tile t) tiles ≡ 1
-  pub never : (t : Tile) → (area t → ⊥) → count_by (is_tile t) tiles ≡ 0
-  pub count : length tiles ≡ n
-
 -- the count of a window
 abbrev pub IsWindowCount : (Tile → Type 0) → ℤ → ℤ → ℤ → ℕ → Type 0
-IsWindowCount area size i j n = IsNumberIn (IsInWindow area size i j) n
+IsWindowCount area size i j n = IsNumberIn (IsTakenInWindow area size i j) n
 
 -- the tiles in the window of all trapezoids of a list together
 abbrev pub window_sum : ℤ → ℤ → ℤ → List Trapezoid → ℕ

@@ -1,7 +1,7 @@
 //! A row of windows.
 ghost use Rattle.std.specs.Prelude.{vec_len, vec_capacity, ◌≡◌, ◌+◌, ◌<◌, ◌≤◌, ◌^◌, pos, neg_ℤ, ◌≤ℤ◌, ◌+ℤ◌, ◌-ℤ◌, ◌*ℤ◌, ◌<ℤ◌, OnOk, OnErr, []};
 ghost use Rattle.std.specs.Int.{int_gap};
-ghost use Rattle.density_map.specs.Frames.{IsNear, IsNearFrame};
+ghost use Rattle.density_map.specs.Frames.{IsNearSide, IsNearFrame};
 ghost use Rattle.density_map.specs.Windows.{IsWindowSize, IsRowWithinReach, window};
 ghost use Rattle.density_map.specs.Counts.{AreCounts, IsCountedMore};
 ghost use Rattle.density_map.specs.Rows.{row_map, IsApartFrom, IsAdded, AreColumnsOf, HasRoom, HaveRoom, AreAdded, counted_in};
@@ -30,10 +30,10 @@ struct Columns {
 /// The column of windows that has the column `x` of the grid.
 fn column_at(strip: &Strip, x: i64) -> i64
     requires size { IsWindowSize strip.now.size }
-    requires x { IsNear x }
+    requires x { IsNearSide x }
     ensures from { (result *ℤ strip.now.size) ≤ℤ x }
     ensures below { x <ℤ ((result +ℤ pos 1) *ℤ strip.now.size) }
-    ensures near { IsNear result }
+    ensures near { IsNearSide result }
 {
     x.div_euclid(strip.size)
 }
@@ -42,7 +42,7 @@ fn column_at(strip: &Strip, x: i64) -> i64
 fn columns_of(trap: &Trap, strip: &Strip) -> Columns
     requires { IsWindowSize strip.now.size }
     ensures columns { AreColumnsOf strip.now.size trap.now result.first result.end }
-    ensures first { IsNear result.first }
+    ensures first { IsNearSide result.first }
     ensures end { result.end ≤ℤ pos (2 ^ 46) }
     ensures low { neg_ℤ (pos (2 ^ 45)) ≤ℤ (result.first *ℤ strip.now.size) }
     ensures high { ((result.end -ℤ pos 1) *ℤ strip.now.size) ≤ℤ pos (2 ^ 44) }
@@ -83,8 +83,8 @@ fn next_of(columns: &Columns) -> Columns
 fn window(strip: &Strip, columns: &Columns) -> Frame
     requires size { IsWindowSize strip.now.size }
     requires reach { IsRowWithinReach strip.now.size strip.now.row }
-    requires left { IsNear (columns.now.first *ℤ strip.now.size) }
-    requires right { IsNear ((columns.now.first +ℤ pos 1) *ℤ strip.now.size) }
+    requires left { IsNearSide (columns.now.first *ℤ strip.now.size) }
+    requires right { IsNearSide ((columns.now.first +ℤ pos 1) *ℤ strip.now.size) }
     ensures value { result ≡ window strip.now.size columns.now.first strip.now.row }
     ensures near { IsNearFrame result }
 {
@@ -109,8 +109,8 @@ fn add_window(
     requires counts { AreCounts counts.old.items }
     requires size { IsWindowSize strip.now.size }
     requires reach { IsRowWithinReach strip.now.size strip.now.row }
-    requires left { IsNear (columns.now.first *ℤ strip.now.size) }
-    requires right { IsNear ((columns.now.first +ℤ pos 1) *ℤ strip.now.size) }
+    requires left { IsNearSide (columns.now.first *ℤ strip.now.size) }
+    requires right { IsNearSide ((columns.now.first +ℤ pos 1) *ℤ strip.now.size) }
     requires room { HasRoom strip.now.size strip.now.row columns.now.first counts.old.items trap.now }
     requires capacity { vec_len counts.old < vec_capacity counts.old }
     ensures counts { AreCounts counts.new.items }

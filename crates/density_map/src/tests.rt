@@ -1,7 +1,7 @@
 //! Counts by the definition, tile by tile, and rows of windows by hand.
 ghost use Rattle.std.specs.Prelude.{◌≡◌, true};
 ghost use Rattle.half_grid.specs.Trapezoids.{trapezoid};
-ghost use Rattle.density_map.specs.Frames.{IsNear, IsNearFrame};
+ghost use Rattle.density_map.specs.Frames.{IsNearSide, IsNearFrame};
 ghost use Rattle.density_map.specs.Rows.{IsApartFrom, IsAdded};
 
 use crate::{Counted, MapRow, count_laws, tiles_in};
@@ -15,7 +15,7 @@ fn trap(rt: &impl Abort, y0: i64, y1: i64, left: Line, right: Line) -> Trap
 }
 
 fn is_near(z: i64) -> bool
-    ensures { result ≡ true → IsNear z }
+    ensures { result ≡ true → IsNearSide z }
 {
     -1000 <= z && z <= 1000
 }

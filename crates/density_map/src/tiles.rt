@@ -5,7 +5,7 @@ ghost use Rattle.half_grid.specs.Lines.{x_on};
 ghost use Rattle.half_grid.specs.Reach.{IsWithinReach};
 ghost use Rattle.half_grid.specs.Trapezoids.{IsShot};
 ghost use Rattle.half_grid.specs.Windows.{row_range};
-ghost use Rattle.density_map.specs.Frames.{natural, IsNear, IsNearFrame, count_in_frame};
+ghost use Rattle.density_map.specs.Frames.{natural, IsNearSide, IsNearFrame, count_in_frame};
 ghost use Rattle.density_map.specs.Wedges.{IsLineWithin, AreRowsOf, tiles_before, count_in_rows};
 
 use half_grid::{Frame, Line, Point, Trap, Window, x_at};
@@ -14,7 +14,7 @@ use half_grid::{Frame, Line, Point, Trap, Window, x_at};
 fn beyond(line: Line, point: Point) -> u64
     requires line { IsWithinReach (x_on line point.y) }
     requires y { IsWithinReach point.y }
-    requires x { IsNear point.x }
+    requires x { IsNearSide point.x }
     ensures value { result ≡ natural (x_on line point.y -ℤ point.x) }
     ensures small { result ≤ 2 ^ 46 }
 {
@@ -46,7 +46,7 @@ fn height_of(rows: Window) -> u128
 /// of a triangle: in half squares, twice its area.
 fn tiles_before(line: Line, x: i64, rows: Window) -> u128
     requires line { IsLineWithin line rows }
-    requires x { IsNear x }
+    requires x { IsNearSide x }
     ensures value { result ≡ tiles_before line x rows.y0 (natural (rows.y1 -ℤ rows.y0)) }
     ensures small { result ≤ 2 ^ 92 }
 {

@@ -10,12 +10,11 @@ use Rattle.density_map.specs.Rows.{RowMap}
 use Rattle.density_map.specs.Windows.{IsWindowSize}
 use Rattle.density_map.proofs.ForCallers.{gap_is, multiples, less_by_multiples}
 use Rattle.deck_plan.specs.Needs.{IsAskedBand}
-use Rattle.deck_plan.specs.Plans.{Planned}
+use Rattle.deck_plan.specs.Plans.{Planned, planned_area}
 use Rattle.density_report.specs.declared.strips.Batch.{Batch}
 use Rattle.density_report.specs.declared.strips.Mesh.{Mesh}
 use Rattle.density_report.specs.declared.strips.Portion.{Portion}
 use Rattle.density_report.specs.declared.strips.Strip.{Strip}
-use Rattle.density_report.specs.Saying.{area_of}
 use Rattle.density_report.specs.Rows.{rows_of, AreCountsFrom, AreFewRows, AreTrapsOf, HasNone, IsBatch, IsFilled, IsPart, IsPassed, IsPortion}
 use Rattle.density_report.proofs.MapLemmas.{none_passed}
 use Rattle.density_report.proofs.StripLemmas.{from_row}
@@ -86,7 +85,7 @@ passed_as area old new row mesh at end p =
 pub first_passed : (p : Planned) (k : ℕ) (left part : Batch) (traps read : List Trapezoid) (first : Strip)
     → IsBatch left → IsPart left part → AreTrapsOf p k part traps → read ≡ traps
     → first.size ≡ part.mesh.size → part.row ≤ℤ first.row → first.row ≤ℤ part.end → All (λ (z : Trapezoid). (first.row *ℤ first.size) ≤ℤ z.y0) read
-    → IsPassed (area_of p k) left (record { mesh = left.mesh; row = first.row; end = left.end })
+    → IsPassed (planned_area p k) left (record { mesh = left.mesh; row = first.row; end = left.end })
 first_passed p k left part traps read first b is of same size from up_to below =
     let row = is.row in
     let top = is.up_to in
@@ -94,13 +93,13 @@ first_passed p k left part traps read first b is of same size from up_to below =
     (subst (λ (ts : List Trapezoid). All (λ (z : Trapezoid). (first.row *ℤ first.size) ≤ℤ z.y0) ts) same below)
     in
     let none = none_passed p k part traps first.row is.batch of low up_to in
-    one_passed (area_of p k) left first.row b (omega (arith, ints, row, from)) (omega (arith, ints, up_to, top))
-    (subst (λ (r : ℤ). HasNone (area_of p k) left.mesh.size r first.row) is.row
-    (subst (λ (m : Mesh). HasNone (area_of p k) m.size part.row first.row) is.mesh none))
+    one_passed (planned_area p k) left first.row b (omega (arith, ints, row, from)) (omega (arith, ints, up_to, top))
+    (subst (λ (r : ℤ). HasNone (planned_area p k) left.mesh.size r first.row) is.row
+    (subst (λ (m : Mesh). HasNone (planned_area p k) m.size part.row first.row) is.mesh none))
 
 -- all of the first ones, where there is no trapezoid
 pub all_passed : (p : Planned) (k : ℕ) (left part : Batch) (traps : List Trapezoid) → IsBatch left → IsPart left part → AreTrapsOf p k part traps → traps ≡ []
-    → IsPassed (area_of p k) left (record { mesh = left.mesh; row = part.end; end = left.end })
+    → IsPassed (planned_area p k) left (record { mesh = left.mesh; row = part.end; end = left.end })
 all_passed p k left part traps b is of none =
     let some = is.some in
     first_passed p k left part traps [] (record { size = part.mesh.size; row = part.end }) b is of (sym none) refl

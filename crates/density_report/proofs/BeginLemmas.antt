@@ -8,11 +8,11 @@ use Rattle.std.specs.List.{zip}
 use Rattle.depot.specs.Content.{Content, with_said}
 use Rattle.density_map.specs.Windows.{IsWindowSize}
 use Rattle.deck_text.specs.declared.deck.Output.{Output}
-use Rattle.deck_plan.specs.Plans.{Planned}
+use Rattle.deck_plan.specs.Plans.{Planned, planned_area}
 use Rattle.density_report.specs.declared.entries.Entry.{Entry}
 use Rattle.density_report.specs.Tables.{Table}
 use Rattle.density_report.specs.Texts.{entry_line, most_line, triangles_line, size_line, front_text, table_text, tables_text}
-use Rattle.density_report.specs.Saying.{area_of, AreTables, IsCutShort}
+use Rattle.density_report.specs.Saying.{AreTables, IsDensityCutShort}
 use Rattle.density_report.specs.Rows.{IsFront, IsBeginning, IsBeginningSaid}
 use Rattle.density_report.proofs.OneTable.{entries_begin, one_table}
 
@@ -58,7 +58,7 @@ same_tables p size n m xs ys few are all =
     let inside : k < n = omega (arith, less, are.count) in
     let one = are.each k inside in
     let other = all.each k (omega (arith, inside, few)) in
-    one.1 ∙ ap Some (one_table (area_of p k) size one.0 other.0 one.2 other.2) ∙ sym other.1 ∙ sym (get_first ys n k inside)
+    one.1 ∙ ap Some (one_table (planned_area p k) size one.0 other.0 one.2 other.2) ∙ sym other.1 ∙ sym (get_first ys n k inside)
     ))
 
 text_cut : (size : ℤ) (outputs : List Output) (tables : List Table) (n : ℕ) → length outputs ≡ length tables
@@ -109,7 +109,7 @@ beginning_is_prefix p size bytes tables h b all = by b.front
         let start = tables_text size (take b.n p.deck.outputs) (take b.n tables) in
         let is : bytes ≡ start ++ b.rest = b.text ∙ ap (λ (l : List Table). tables_text size (take b.n p.deck.outputs) l ++ b.rest) first in
         let own = all.each b.n (slice_get_within p.deck.outputs b.n f.output f.here) in
-        let begun = entries_begin (area_of p b.n) size f.row f.entries own.0.entries h f.are own.2.entries in
+        let begun = entries_begin (planned_area p b.n) size f.row f.entries own.0.entries h f.are own.2.entries in
         let after = tables_text size (drop (suc b.n) p.deck.outputs) (drop (suc b.n) tables) in
         let end = (flat_map entry_line begun.0 ++ most_line own.0.most) ++ triangles_line own.0.triangles in
         let table : table_text size (f.output, own.0) ≡ b.rest ++ end =
@@ -124,7 +124,7 @@ beginning_is_prefix p size bytes tables h b all = by b.front
 
 -- so what was said of it is a prefix of the text
 pub cut_short : (p : Planned) (size : ℤ) (tables : List Table) (before now : Content) → IsWindowSize size
-    → AreTables p size (length p.deck.outputs) tables → IsBeginningSaid p size before now → IsCutShort p size before now
+    → AreTables p size (length p.deck.outputs) tables → IsBeginningSaid p size before now → IsDensityCutShort p size before now
 cut_short p size tables before now h all (bytes, begins, (n, few, e)) =
     let on = beginning_is_prefix p size bytes tables h begins all in
     let long = ap (λ (l : List ℕ). length l) on.1 in

@@ -6,7 +6,7 @@ use Rattle.std.specs.List.{All}
 use Rattle.std.specs.Ordering.{int_eq}
 use Rattle.half_grid.specs.declared.plane.Tile.{Tile}
 use Rattle.half_grid.proofs.ForCallers.{int_eq_true}
-use Rattle.density_map.specs.Windows.{IsWindowSize, IsInWindow, IsWindowCount}
+use Rattle.density_map.specs.Windows.{IsWindowSize, IsTakenInWindow, IsWindowCount}
 use Rattle.density_report.specs.declared.entries.Entry.{Entry}
 use Rattle.density_report.specs.Tables.{Table, IsBefore, AreAscending, tiles_for, listed, IsFirstGreatest, IsMost, IsDensityTable, HasTrueNumbers}
 use Rattle.density_report.specs.Rows.{sum_of}
@@ -49,7 +49,7 @@ most_of_all : (area : Tile → Type 0) (size i j : ℤ) (n : ℕ) (table : Table
     → IsDensityTable area size table → IsFirstGreatest table.entries greatest → IsWindowCount area size i j n
     → n ≤ greatest.tiles
 most_of_all area size i j n table greatest is first count =
-    let same = one_number (IsInWindow area size i j) n (listed i j table.entries) count (is.entries.counts i j) in
+    let same = one_number (IsTakenInWindow area size i j) n (listed i j table.entries) count (is.entries.counts i j) in
     let few = listed_bound i j greatest.tiles table.entries is.entries.ascending (none_more table.entries greatest first) in
     omega (arith, same, few)
 

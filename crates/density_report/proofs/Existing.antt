@@ -15,15 +15,14 @@ use Rattle.half_grid.proofs.ForCallers.{int_eq_same, int_eq_other}
 use Rattle.bool_ops.specs.Operations.{IsInRows}
 use Rattle.density_map.specs.declared.counts.Counted.{Counted}
 use Rattle.density_map.specs.Counts.{AreCounts, column_of, count_at, tiles_at}
-use Rattle.density_map.specs.Windows.{IsWindowSize, IsInWindow, IsWindowCount, window_sum}
+use Rattle.density_map.specs.Windows.{IsWindowSize, IsTakenInWindow, IsWindowCount, window_sum}
 use Rattle.density_map.proofs.ForCallers.{sum_is_count, next_side, multiples, less_by_multiples, floor_of, gap_is}
 use Rattle.deck_plan.specs.Bands.{AreRowsNear}
 use Rattle.deck_plan.specs.Needs.{IsBand}
-use Rattle.deck_plan.specs.Plans.{Planned, IsBandOf}
+use Rattle.deck_plan.specs.Plans.{Planned, IsBandOf, planned_area}
 use Rattle.density_report.specs.declared.entries.Entry.{Entry}
 use Rattle.density_report.specs.declared.strips.Batch.{Batch}
 use Rattle.density_report.specs.Tables.{Table, AreEntries, IsMost, IsDensityTable}
-use Rattle.density_report.specs.Saying.{area_of}
 use Rattle.density_report.specs.Rows.{IsBelow, rows_of, entries_of, sum_of, AreRowCounts, AreTrapsOf, HasRows}
 use Rattle.density_report.proofs.NumberLemmas.{number_none}
 use Rattle.density_report.proofs.EntryLemmas.{AreBelow, below_next}
@@ -164,7 +163,7 @@ in_row size row traps i = window_sum size i row traps
 
 some_counts : (p : Planned) (k : ℕ) (batch : Batch) (size row : ℤ) (traps : List Trapezoid) → IsWindowSize size → AreTrapsOf p k batch traps
     → ((t : Tile) → (row *ℤ size) ≤ℤ t.j → t.j <ℤ ((row +ℤ pos 1) *ℤ size) → IsInRows (rows_of batch) t)
-    → HasCounts (area_of p k) size row
+    → HasCounts (planned_area p k) size row
 some_counts p k batch size row traps h of inside =
     let all = all_columns size h in
     record {
@@ -173,22 +172,22 @@ some_counts p k batch size row traps h of inside =
       are = record { each = λ i. each i; within = within };
     }
   where
-    within : (t : Tile) → area_of p k t → (row *ℤ size) ≤ℤ t.j → t.j <ℤ ((row +ℤ pos 1) *ℤ size) → IsTileWithinReach t
+    within : (t : Tile) → planned_area p k t → (row *ℤ size) ≤ℤ t.j → t.j <ℤ ((row +ℤ pos 1) *ℤ size) → IsTileWithinReach t
     within t a low high = some_within t traps of.shots
         (let one = of.joined.covers.once t (record { rows = inside t low high; area = a }) in omega (arith, one))
 
-    own : (i : ℤ) → IsWindowCount (area_of p k) size i row (in_row size row traps i)
+    own : (i : ℤ) → IsWindowCount (planned_area p k) size i row (in_row size row traps i)
     own i =
-        sum_is_count (area_of p k) size i row traps (traps_apart p k (rows_of batch) traps of.joined)
+        sum_is_count (planned_area p k) size i row traps (traps_apart p k (rows_of batch) traps of.joined)
         (λ t w. (
           λ a. of.joined.covers.once t (record { rows = inside t w.above_bottom w.below_top; area = a }),
           λ out. of.joined.covers.never t (λ g. out g.area),
         ))
 
-    none : (i : ℤ) → ((t : Tile) → IsInWindow (area_of p k) size i row t → ⊥) → (n : ℕ) → n ≡ 0 → IsWindowCount (area_of p k) size i row n
-    none i out n e = subst (λ (m : ℕ). IsWindowCount (area_of p k) size i row m) (sym e) (number_none (IsInWindow (area_of p k) size i row) out)
+    none : (i : ℤ) → ((t : Tile) → IsTakenInWindow (planned_area p k) size i row t → ⊥) → (n : ℕ) → n ≡ 0 → IsWindowCount (planned_area p k) size i row n
+    none i out n e = subst (λ (m : ℕ). IsWindowCount (planned_area p k) size i row m) (sym e) (number_none (IsTakenInWindow (planned_area p k) size i row) out)
 
-    each : (i : ℤ) → IsWindowCount (area_of p k) size i row (count_at i (columns (in_row size row traps) (all_columns size h).first (all_columns size h).count))
+    each : (i : ℤ) → IsWindowCount (planned_area p k) size i row (count_at i (columns (in_row size row traps) (all_columns size h).first (all_columns size h).count))
     each i =
         let all = all_columns size h in
         by_lt_z i all.first
@@ -200,7 +199,7 @@ some_counts p k batch size row traps h of inside =
         omega (arith, ints, up, reach, side, low)
         )) (count_at i (columns (in_row size row traps) all.first all.count)) (left_of (in_row size row traps) i all.first all.count less))
         (λ from. by_lt_z i (all.first +ℤ pos all.count)
-        (λ less. subst (λ (n : ℕ). IsWindowCount (area_of p k) size i row n) (sym (among (in_row size row traps) i all.first all.count from less)) (own i))
+        (λ less. subst (λ (n : ℕ). IsWindowCount (planned_area p k) size i row n) (sym (among (in_row size row traps) i all.first all.count from less)) (own i))
         (λ past. none i (λ t w. (
         let up = multiples (all.first +ℤ pos all.count) i size (some_size size h) past in
         let reach = (within t w.taken w.inside.above_bottom w.inside.below_top).column.high in
@@ -291,7 +290,7 @@ table_of area size entries h are =
 -- an output whose area has a joined list in each band within reach, and whose rows are these
 pub has_table : (p : Planned) (k : ℕ) (size : ℤ) (rows : RowRange) → IsWindowSize size → AreRowsNear rows → HasRows p k rows
     → ((band : RowRange) → IsBand band → (traps : List Trapezoid) × IsBandOf p k band traps)
-    → (table : Table) × IsDensityTable (area_of p k) size table
+    → (table : Table) × IsDensityTable (planned_area p k) size table
 has_table p k size rows h near outside lists =
     let some = some_size size h in
     let a = floor_of size rows.y0 some in
@@ -319,12 +318,12 @@ has_table p k size rows h near outside lists =
     let of : AreTrapsOf p k batch list.0 = record { joined = list.1.joined; shots = list.1.shots } in
     let up = less_by_multiples row end size some (omega (arith, ints, from, window, past)) in
     let gap = gap_is row end (omega (arith, ints, up)) in
-    let g = grid (area_of p k) size row (int_gap row end) h (λ t taken. (let own = (outside t taken).from in omega (arith, ints, own, from)))
+    let g = grid (planned_area p k) size row (int_gap row end) h (λ t taken. (let own = (outside t taken).from in omega (arith, ints, own, from)))
     (λ r more less. some_counts p k batch size r list.0 h of (λ t bottom top. (
     let one = multiples row r size some more in
     let other = multiples (r +ℤ pos 1) end size some (omega (arith, ints, less, gap)) in
     record { from = omega (arith, ints, one, bottom); below = omega (arith, ints, other, top) }
     ))) in
-    table_of (area_of p k) size g.entries h
-    (all_entries (area_of p k) size end g.entries (λ t taken. (let own = (outside t taken).below in omega (arith, ints, own, past)))
-    (subst (λ (r : ℤ). AreEntries (IsBelow (area_of p k) size r) size g.entries) gap g.are))
+    table_of (planned_area p k) size g.entries h
+    (all_entries (planned_area p k) size end g.entries (λ t taken. (let own = (outside t taken).below in omega (arith, ints, own, past)))
+    (subst (λ (r : ℤ). AreEntries (IsBelow (planned_area p k) size r) size g.entries) gap g.are))

@@ -15,11 +15,10 @@ use Rattle.half_grid.specs.declared.plane.Tile.{Tile}
 use Rattle.half_grid.proofs.ForCallers.{has_in, count_by-cons}
 use Rattle.density_map.specs.Frames.{IsInFrame, count_in_frame}
 use Rattle.density_map.specs.Rows.{RowMap, row_map, AreApart, IsAdded}
-use Rattle.density_map.specs.Windows.{IsWindowSize, IsInWindow, window, window_sum}
+use Rattle.density_map.specs.Windows.{IsWindowSize, IsTakenInWindow, window, window_sum}
 use Rattle.density_map.proofs.ForCallers.{sum_is_count, one_more, multiples, gap_is}
-use Rattle.deck_plan.specs.Plans.{Planned}
+use Rattle.deck_plan.specs.Plans.{Planned, planned_area}
 use Rattle.density_report.specs.declared.strips.Batch.{Batch}
-use Rattle.density_report.specs.Saying.{area_of}
 use Rattle.density_report.specs.Rows.{AreCountsFrom, AreMapsOf, ArePlacesOf, AreRowCounts, AreTrapsOf, HasNone, IsBatch, IsMapAt}
 use Rattle.density_report.proofs.NumberLemmas.{number_none, one_number}
 use Rattle.density_report.proofs.RowSteps.{first_apart, row_counts}
@@ -47,8 +46,8 @@ none_met : (size i j : ℤ) (z : Trapezoid) → ((t : Tile) → IsInFrame (windo
 none_met size i j z out =
     let counted = sum_is_count (λ t. count_in (z ∷ []) t ≡ 1) size i j (z ∷ []) (alone z)
     (λ t h. (λ e. e, λ no. none_of_one (count_in (z ∷ []) t) (alone z t) no)) in
-    let none = number_none (IsInWindow (λ t. count_in (z ∷ []) t ≡ 1) size i j) (λ t h. out t h.inside (in_alone z t (trapezoid_has t z) refl h.taken)) in
-    let same = one_number (IsInWindow (λ t. count_in (z ∷ []) t ≡ 1) size i j) (window_sum size i j (z ∷ [])) 0 counted none in
+    let none = number_none (IsTakenInWindow (λ t. count_in (z ∷ []) t ≡ 1) size i j) (λ t h. out t h.inside (in_alone z t (trapezoid_has t z) refl h.taken)) in
+    let same = one_number (IsTakenInWindow (λ t. count_in (z ∷ []) t ≡ 1) size i j) (window_sum size i j (z ∷ [])) 0 counted none in
     let one = sum_by-cons (count_in_frame (window size i j)) z [] in
     omega (arith, same, one)
 
@@ -197,7 +196,7 @@ one_more_map size end maps m n count is are k d inside = by (nat_lt k n) refl
 -- ---- the counts of an output's area
 
 pub counts_from : (p : Planned) (k : ℕ) (batch : Batch) (traps : List Trapezoid) (maps : List RowMap) → IsBatch batch → AreTrapsOf p k batch traps
-    → AreMapsOf batch.mesh.size batch.end traps maps → length maps ≡ int_gap batch.row batch.end → AreCountsFrom (area_of p k) batch.mesh.size batch.row maps
+    → AreMapsOf batch.mesh.size batch.end traps maps → length maps ≡ int_gap batch.row batch.end → AreCountsFrom (planned_area p k) batch.mesh.size batch.row maps
 counts_from p k batch traps maps b of are count = record {
   each = λ at d inside. (
       let size = batch.mesh.size in
@@ -207,7 +206,7 @@ counts_from p k batch traps maps b of are count = record {
       let m = are at d inside in
       let bottom = multiples batch.row (batch.end -ℤ pos (at + 1)) size positive (omega (arith, ints, inside, all, count)) in
       let top = multiples ((batch.end -ℤ pos (at + 1)) +ℤ pos 1) batch.end size positive (omega (arith, ints)) in
-      subst (λ (e : ℤ). AreRowCounts (area_of p k) size (e -ℤ pos (at + 1)) (get_or maps at d).counts) end
+      subst (λ (e : ℤ). AreRowCounts (planned_area p k) size (e -ℤ pos (at + 1)) (get_or maps at d).counts) end
       (row_counts p k batch size (batch.end -ℤ pos (at + 1)) traps (get_or maps at d) of
       (λ t low high. record { from = omega (arith, ints, bottom, low); below = omega (arith, ints, top, high) }) m.size_is m.row_is m.counted)
       );
@@ -266,7 +265,7 @@ none_below (z ∷ traps) y t up less =
 
 pub none_passed : (p : Planned) (k : ℕ) (batch : Batch) (traps : List Trapezoid) (row : ℤ) → IsBatch batch
     → AreTrapsOf p k batch traps → All (λ (z : Trapezoid). (row *ℤ batch.mesh.size) ≤ℤ z.y0) traps
-    → row ≤ℤ batch.end → HasNone (area_of p k) batch.mesh.size batch.row row
+    → row ≤ℤ batch.end → HasNone (planned_area p k) batch.mesh.size batch.row row
 none_passed p k batch traps row b of up inside t taken low high =
     let top = multiples row batch.end batch.mesh.size (some_size batch.mesh.size b.size) inside in
     let one = of.joined.covers.once t (record { rows = record { from = low; below = omega (arith, ints, top, high) }; area = taken }) in

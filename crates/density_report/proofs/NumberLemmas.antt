@@ -5,7 +5,7 @@ use Rattle.std.proofs.lemmas.Int.{ints}
 use Rattle.std.proofs.lemmas.List.{length-append}
 use Rattle.std.proofs.lemmas.List.Sums.{sum_by-append}
 use Rattle.half_grid.specs.Reach.{IsTileWithinReach}
-use Rattle.half_grid.specs.Sizes.{is_tile, is_same_side}
+use Rattle.half_grid.specs.Sizes.{is_tile, is_same_side, IsNumberIn}
 use Rattle.half_grid.specs.Trapezoids.{Trapezoid, trapezoid, IsInTrapezoid, IsLegal}
 use Rattle.half_grid.specs.Winding.{count_one}
 use Rattle.half_grid.specs.declared.plane.Line.TheVariants.{Upright}
@@ -13,7 +13,6 @@ use Rattle.half_grid.specs.declared.plane.Side.{Side}
 use Rattle.half_grid.specs.declared.plane.Side.TheVariants.{Left, Right}
 use Rattle.half_grid.specs.declared.plane.Tile.{Tile}
 use Rattle.half_grid.proofs.ForCallers.{size_is, count_by-cons, int_eq_same}
-use Rattle.density_map.specs.Windows.{IsNumberIn}
 use Rattle.density_map.proofs.ForCallers.{same_tile}
 
 -- ---- areas of the same tiles, none, and two that share none

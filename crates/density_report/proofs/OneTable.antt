@@ -7,7 +7,7 @@ use Rattle.std.proofs.lemmas.List.Elements.{All-cons, All-head, All-tail, All-we
 use Rattle.std.proofs.lemmas.List.Sums.{sum_by-cons}
 use Rattle.std.specs.List.{All}
 use Rattle.half_grid.specs.declared.plane.Tile.{Tile}
-use Rattle.density_map.specs.Windows.{IsWindowSize, IsInWindow}
+use Rattle.density_map.specs.Windows.{IsWindowSize, IsTakenInWindow}
 use Rattle.density_report.specs.declared.entries.Entry.{Entry}
 use Rattle.density_report.specs.Tables.{Table, IsBefore, AreAscending, AreEntries, tiles_for, listed, IsMost, IsDensityTable}
 use Rattle.density_report.specs.Rows.{IsBelow}
@@ -151,10 +151,10 @@ pub entries_begin : (area : Tile → Type 0) (size row : ℤ) (xs ys : List Entr
     → AreEntries (IsBelow area size row) size xs → AreEntries area size ys → (rest : List Entry) × (ys ≡ xs ++ rest)
 entries_begin area size row xs ys h p q =
     begins (λ j. j <ℤ row) xs ys p.ascending q.ascending p.above_zero q.above_zero (record {
-      same = λ i j less. one_number (IsInWindow area size i j) (listed i j xs) (listed i j ys)
+      same = λ i j less. one_number (IsTakenInWindow area size i j) (listed i j xs) (listed i j ys)
           (low_count area size row i j (listed i j xs) h less (p.counts i j)) (q.counts i j);
       each = λ i j. by_lt_z j row (λ less. inl less)
-          (λ more. inr (one_number (IsInWindow (IsBelow area size row) size i j) (listed i j xs) 0 (p.counts i j)
+          (λ more. inr (one_number (IsTakenInWindow (IsBelow area size row) size i j) (listed i j xs) 0 (p.counts i j)
           (high_count area size row i j h more)));
       down = λ i j up low. omega (arith, ints, up, low);
     })
@@ -166,7 +166,7 @@ empty (x ∷ l) e = absurd (omega (arith, e))
 -- an area has one list of entries
 pub one_list : (area : Tile → Type 0) (size : ℤ) (xs ys : List Entry) → AreEntries area size xs → AreEntries area size ys → xs ≡ ys
 one_list area size xs ys p q =
-    let agree = λ (i : ℤ). λ (j : ℤ). one_number (IsInWindow area size i j) (listed i j xs) (listed i j ys) (p.counts i j) (q.counts i j) in
+    let agree = λ (i : ℤ). λ (j : ℤ). one_number (IsTakenInWindow area size i j) (listed i j xs) (listed i j ys) (p.counts i j) (q.counts i j) in
     let one = begins (λ j. Unit {0}) xs ys p.ascending q.ascending p.above_zero q.above_zero
     (record { same = λ i j h. agree i j; each = λ i j. inl tt; down = λ i j up h. tt }) in
     let other = begins (λ j. Unit {0}) ys xs q.ascending p.ascending q.above_zero p.above_zero

@@ -22,14 +22,13 @@ use Rattle.density_map.specs.Rows.{RowMap, AreApart, IsMapOf}
 use Rattle.density_map.specs.Windows.{IsWindowSize, IsWindowCount, window_sum}
 use Rattle.density_map.proofs.ForCallers.{sum_is_count}
 use Rattle.deck_plan.specs.Areas.{IsInBand}
-use Rattle.deck_plan.specs.Plans.{Planned}
+use Rattle.deck_plan.specs.Plans.{Planned, planned_area}
 use Rattle.depot.specs.Printing.{IsSaidButFor}
 use Rattle.depot.proofs.ForCallers.{hold_more, part_held, said_then}
 use Rattle.density_report.specs.declared.entries.Entry.{Entry}
 use Rattle.density_report.specs.declared.entries.Totals.{Totals}
 use Rattle.density_report.specs.Tables.{AreEntries}
 use Rattle.density_report.specs.Texts.{entry_line}
-use Rattle.density_report.specs.Saying.{area_of}
 use Rattle.density_report.specs.declared.strips.Batch.{Batch}
 use Rattle.density_report.specs.Rows.{IsBelow, rows_of, entry_of, entries_of, counted_line, triangles_of, sum_of, AreTotals}
 use Rattle.density_report.specs.Rows.{AreRowCounts, AreRowsPut, AreRowsCut, AreTrapsOf, HasNone}
@@ -69,10 +68,10 @@ some_within t (z ∷ traps) shots some =
 -- the counts of one row of windows of some, by trapezoids that have the area in all of them
 pub row_counts : (p : Planned) (k : ℕ) (batch : Batch) (size row : ℤ) (traps : List Trapezoid) (m : RowMap) → AreTrapsOf p k batch traps
     → ((t : Tile) → (row *ℤ size) ≤ℤ t.j → t.j <ℤ ((row +ℤ pos 1) *ℤ size) → IsInRows (rows_of batch) t) → m.size ≡ size → m.row ≡ row → IsMapOf m traps
-    → AreRowCounts (area_of p k) size row m.counts
+    → AreRowCounts (planned_area p k) size row m.counts
 row_counts p k batch size row traps m of inside e f mapped = record {
-  each = λ i. subst (λ (n : ℕ). IsWindowCount (area_of p k) size i row n) (same size row e f i)
-      (sum_is_count (area_of p k) size i row traps (traps_apart p k (rows_of batch) traps of.joined)
+  each = λ i. subst (λ (n : ℕ). IsWindowCount (planned_area p k) size i row n) (same size row e f i)
+      (sum_is_count (planned_area p k) size i row traps (traps_apart p k (rows_of batch) traps of.joined)
       (λ t within. (
         λ a. of.joined.covers.once t (record { rows = inside t within.above_bottom within.below_top; area = a }),
         λ out. of.joined.covers.never t (λ h. out h.area),
@@ -91,8 +90,8 @@ pub record AreRowsSoFar (p : Planned) (k : ℕ) (size row : ℤ) (tells : Bool) 
     (totals : Totals) (left : List ℕ) (now : Content) : Type 0 where
   pub entries : List Entry
   pub below : AreBelow row entries
-  pub are : AreEntries (IsBelow (area_of p k) size row) size entries
-  pub within : (t : Tile) → IsBelow (area_of p k) size row t → IsTileWithinReach t
+  pub are : AreEntries (IsBelow (planned_area p k) size row) size entries
+  pub within : (t : Tile) → IsBelow (planned_area p k) size row t → IsTileWithinReach t
   pub totals_of : AreTotals entries totals
   pub content : IsTrue tells → IsSaidButFor before (held ++ flat_map entry_line entries) left now
 
@@ -105,11 +104,11 @@ rows_told {p} {k} {size} {row} {tells} {before} {held} {totals} {left} same s =
 
 -- none yet
 pub no_rows : (p : Planned) (k : ℕ) (size row : ℤ) (tells : Bool) (before : Content) (held : List ℕ) (totals : Totals) (rows : RowRange) → AreTotals [] totals
-    → ((t : Tile) → area_of p k t → IsInRows rows t) → (row *ℤ size) ≤ℤ rows.y0 → AreRowsSoFar p k size row tells before held totals held before
+    → ((t : Tile) → planned_area p k t → IsInRows rows t) → (row *ℤ size) ≤ℤ rows.y0 → AreRowsSoFar p k size row tells before held totals held before
 no_rows p k size row tells before held totals rows none outside low = record {
   entries = [];
   below = All-nil (λ (e : Entry). e.row <ℤ row);
-  are = no_entries (area_of p k) size row (λ t a. (let from = (outside t a).from in omega (arith, ints, from, low)));
+  are = no_entries (planned_area p k) size row (λ t a. (let from = (outside t a).from in omega (arith, ints, from, low)));
   within = λ t b. absurd (let from = (outside t b.taken).from in let under = b.below in omega (arith, ints, from, low, under));
   totals_of = none;
   content = λ told. record {
@@ -138,16 +137,16 @@ module _ (p : Planned) (k : ℕ) (size row : ℤ) (tells : Bool) (before : Conte
   pub stopped : IsTrue tells → AreRowsCut p k size before held now
   stopped told = record { row = row; entries = s.entries; are = s.are; content = part_said (s.content told) }
 
-  module _ (counts : List Counted) (h : IsWindowSize size) (ascending : AreCounts counts) (more : AreRowCounts (area_of p k) size row counts) where
-    next : AreEntries (IsBelow (area_of p k) size (row +ℤ pos 1)) size (s.entries ++ entries_of row counts)
-    next = next_entries (area_of p k) size row s.entries counts h ascending s.below s.are more
+  module _ (counts : List Counted) (h : IsWindowSize size) (ascending : AreCounts counts) (more : AreRowCounts (planned_area p k) size row counts) where
+    next : AreEntries (IsBelow (planned_area p k) size (row +ℤ pos 1)) size (s.entries ++ entries_of row counts)
+    next = next_entries (planned_area p k) size row s.entries counts h ascending s.below s.are more
 
     -- the sum stays small
     pub few : totals.triangles + triangles_of counts < 2 ^ 127
     few =
-        let small = number_few (IsBelow (area_of p k) size (row +ℤ pos 1))
-        (sum_of (s.entries ++ entries_of row counts)) (next_within (area_of p k) size row counts s.within more)
-        (total (IsBelow (area_of p k) size (row +ℤ pos 1)) size (s.entries ++ entries_of row counts) h next) in
+        let small = number_few (IsBelow (planned_area p k) size (row +ℤ pos 1))
+        (sum_of (s.entries ++ entries_of row counts)) (next_within (planned_area p k) size row counts s.within more)
+        (total (IsBelow (planned_area p k) size (row +ℤ pos 1)) size (s.entries ++ entries_of row counts) h next) in
         let both = sum_by-append (λ (e : Entry). e.tiles) s.entries (entries_of row counts) in
         let here = sum_here row counts in
         let sum = s.totals_of.sum in
@@ -171,29 +170,29 @@ module _ (p : Planned) (k : ℕ) (size row : ℤ) (tells : Bool) (before : Conte
           entries = s.entries ++ entries_of row counts;
           below = below_next row s.entries counts s.below;
           are = next;
-          within = next_within (area_of p k) size row counts s.within more;
+          within = next_within (planned_area p k) size row counts s.within more;
           totals_of = counted s.entries s.totals_of;
           content = λ told. subst (λ (l : List ℕ). IsSaidButFor before l rest later) (more_lines held s.entries row counts)
               (said_then (flat_map (counted_line row) counts) (s.content told) (put told));
         })
 
   -- where the area has nothing in the rows of windows from this one up to another
-  pub rows_passed : (up : ℤ) → IsWindowSize size → row ≤ℤ up → HasNone (area_of p k) size row up → AreRowsSoFar p k size up tells before held totals left now
+  pub rows_passed : (up : ℤ) → IsWindowSize size → row ≤ℤ up → HasNone (planned_area p k) size row up → AreRowsSoFar p k size up tells before held totals left now
   rows_passed up h more none = record {
     entries = s.entries;
     below = All-weaker (λ (e : Entry). e.row <ℤ row) (λ (e : Entry). e.row <ℤ up) (λ e less. omega (arith, ints, less, more)) s.entries s.below;
-    are = passed_entries (area_of p k) size row up s.entries h more none s.are;
-    within = λ t b. s.within t (passed_below (area_of p k) size row up none t b);
+    are = passed_entries (planned_area p k) size row up s.entries h more none s.are;
+    within = λ t b. s.within t (passed_below (planned_area p k) size row up none t b);
     totals_of = s.totals_of;
     content = s.content;
   }
 
   -- where no row is left
-  pub rows_put : (rows : RowRange) → ((t : Tile) → area_of p k t → IsInRows rows t) → rows.y1 ≤ℤ (row *ℤ size)
+  pub rows_put : (rows : RowRange) → ((t : Tile) → planned_area p k t → IsInRows rows t) → rows.y1 ≤ℤ (row *ℤ size)
       → AreRowsPut p k size tells before held totals left now
   rows_put rows outside last = record {
     entries = s.entries;
-    are = all_entries (area_of p k) size row s.entries (λ t a. (let under = (outside t a).below in omega (arith, ints, under, last))) s.are;
+    are = all_entries (planned_area p k) size row s.entries (λ t a. (let under = (outside t a).below in omega (arith, ints, under, last))) s.are;
     totals_of = s.totals_of;
     content = s.content;
   }

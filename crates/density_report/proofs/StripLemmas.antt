@@ -5,7 +5,7 @@ use Rattle.std.specs.Int.{int_gap, int_min}
 use Rattle.half_grid.specs.JoinedLists.{IsInWindow}
 use Rattle.half_grid.specs.Trapezoids.{Trapezoid}
 use Rattle.half_grid.specs.Windows.{RowRange, row_range}
-use Rattle.density_map.specs.Frames.{IsNear}
+use Rattle.density_map.specs.Frames.{IsNearSide}
 use Rattle.density_map.specs.Windows.{IsWindowSize, IsRowWithinReach}
 use Rattle.density_map.proofs.ForCallers.{next_side, multiples, less_by_multiples, gap_is, no_gap}
 use Rattle.deck_plan.specs.Bands.{AreRowsNear}
@@ -33,8 +33,8 @@ last_side end size =
 
 -- the rows of windows from that of the first row up to that of the last row
 pub hold_rows : (size : ℤ) (rows : RowRange) (y0 y1 row last : ℤ) → y0 ≡ rows.y0 → y1 ≡ rows.y1 → (row *ℤ size) ≤ℤ y0
-    → y0 <ℤ ((row +ℤ pos 1) *ℤ size) → IsNear row
-    → (last *ℤ size) ≤ℤ (y1 -ℤ pos 1) → (y1 -ℤ pos 1) <ℤ ((last +ℤ pos 1) *ℤ size) → IsNear last → HoldRows size rows row (last +ℤ pos 1)
+    → y0 <ℤ ((row +ℤ pos 1) *ℤ size) → IsNearSide row
+    → (last *ℤ size) ≤ℤ (y1 -ℤ pos 1) → (y1 -ℤ pos 1) <ℤ ((last +ℤ pos 1) *ℤ size) → IsNearSide last → HoldRows size rows row (last +ℤ pos 1)
 hold_rows size rows y0 y1 row last e f from below near from_last below_last near_last =
     let low = near.low in
     let low_last = near_last.low in
@@ -118,7 +118,7 @@ but_last old new b some_left mesh row end =
     (subst (λ (r : ℤ). IsBatch (record { mesh = old.mesh; row = r; end = new.end })) (sym row)
     (subst (λ (e : ℤ). IsBatch (record { mesh = old.mesh; row = old.row; end = e })) (sym end) made))
 
-pub near_top : (left : Batch) (portion : Portion) → IsBatch left → IsPortion left.mesh.size portion → IsNear ((left.row *ℤ left.mesh.size) +ℤ portion.rows)
+pub near_top : (left : Batch) (portion : Portion) → IsBatch left → IsPortion left.mesh.size portion → IsNearSide ((left.row *ℤ left.mesh.size) +ℤ portion.rows)
 near_top left portion b p =
     let low = b.low in
     let order = b.order in

@@ -7,13 +7,13 @@ use Rattle.std.proofs.lemmas.List.Sums.{sum_by-cons, count_by-le-length}
 use Rattle.std.specs.List.{All}
 use Rattle.std.specs.Ordering.{int_eq}
 use Rattle.half_grid.specs.Reach.{IsTileWithinReach}
-use Rattle.half_grid.specs.Sizes.{is_tile}
+use Rattle.half_grid.specs.Sizes.{is_tile, IsNumberIn}
 use Rattle.half_grid.specs.declared.plane.Tile.{Tile}
 use Rattle.half_grid.proofs.ForCallers.{int_eq_true}
 use Rattle.density_map.specs.declared.counts.Counted.{Counted}
 use Rattle.density_map.specs.Counts.{AreCounts, count_at}
 use Rattle.density_map.specs.Frames.{IsInFrame}
-use Rattle.density_map.specs.Windows.{IsWindowSize, IsInWindow, IsNumberIn, IsWindowCount, window}
+use Rattle.density_map.specs.Windows.{IsWindowSize, IsTakenInWindow, IsWindowCount, window}
 use Rattle.density_map.proofs.ForCallers.{next_side, multiples, floor_of}
 use Rattle.density_report.specs.declared.entries.Entry.{Entry}
 use Rattle.density_report.specs.Tables.{IsBefore, AreAscending, AreEntries, tiles_for, listed}
@@ -32,7 +32,7 @@ pub no_entries : (area : Tile → Type 0) (size row : ℤ) → ((t : Tile) → a
 no_entries area size row above = record {
   ascending = tt;
   above_zero = All-nil (λ (e : Entry). 0 < e.tiles);
-  counts = λ i j. number_none (IsInWindow (IsBelow area size row) size i j) (λ t h. (
+  counts = λ i j. number_none (IsTakenInWindow (IsBelow area size row) size i j) (λ t h. (
       let up = above t h.taken.taken in
       let down = h.taken.below in
       omega (arith, ints, up, down)
@@ -46,7 +46,7 @@ pub all_entries : (area : Tile → Type 0) (size row : ℤ) (entries : List Entr
 all_entries area size row entries below are = record {
   ascending = are.ascending;
   above_zero = are.above_zero;
-  counts = λ i j. number_same (IsInWindow (IsBelow area size row) size i j) (IsInWindow area size i j) (listed i j entries)
+  counts = λ i j. number_same (IsTakenInWindow (IsBelow area size row) size i j) (IsTakenInWindow area size i j) (listed i j entries)
       (λ t h. record { inside = h.inside; taken = h.taken.taken })
       (λ t h. record { inside = h.inside; taken = record { below = below t h.taken; taken = h.taken } })
       (are.counts i j);
@@ -59,7 +59,7 @@ low_window area size row i j n h less p =
     let up = multiples (j +ℤ pos 1) row size (some_size size h) (omega (arith, ints, less)) in
     let next = next_side row size in
     let low = h.low in
-    number_same (IsInWindow (IsBelow area size row) size i j) (IsInWindow (IsBelow area size (row +ℤ pos 1)) size i j) n
+    number_same (IsTakenInWindow (IsBelow area size row) size i j) (IsTakenInWindow (IsBelow area size (row +ℤ pos 1)) size i j) n
     (λ t w. record { inside = w.inside; taken = record { below = (let b = w.taken.below in omega (arith, ints, b, next, low)); taken = w.taken.taken } })
     (λ t w. record { inside = w.inside; taken = record { below = (let b = w.inside.below_top in omega (arith, ints, b, up)); taken = w.taken.taken } })
     p
@@ -67,7 +67,7 @@ low_window area size row i j n h less p =
 -- those of the row itself
 own_window : (area : Tile → Type 0) (size row i : ℤ) (n : ℕ) → IsWindowCount area size i row n → IsWindowCount (IsBelow area size (row +ℤ pos 1)) size i row n
 own_window area size row i n p =
-    number_same (IsInWindow area size i row) (IsInWindow (IsBelow area size (row +ℤ pos 1)) size i row) n
+    number_same (IsTakenInWindow area size i row) (IsTakenInWindow (IsBelow area size (row +ℤ pos 1)) size i row) n
     (λ t w. record { inside = w.inside; taken = record { below = w.inside.below_top; taken = w.taken } })
     (λ t w. record { inside = w.inside; taken = w.taken.taken })
     p
@@ -76,7 +76,7 @@ own_window area size row i n p =
 high_window : (area : Tile → Type 0) (size row i j : ℤ) → IsWindowSize size → row <ℤ j → IsWindowCount (IsBelow area size (row +ℤ pos 1)) size i j 0
 high_window area size row i j h more =
     let up = multiples (row +ℤ pos 1) j size (some_size size h) (omega (arith, ints, more)) in
-    number_none (IsInWindow (IsBelow area size (row +ℤ pos 1)) size i j) (λ t w. (
+    number_none (IsTakenInWindow (IsBelow area size (row +ℤ pos 1)) size i j) (λ t w. (
     let a = w.inside.above_bottom in
     let b = w.taken.below in
     omega (arith, ints, a, b, up)
@@ -121,7 +121,7 @@ pub low_count : (area : Tile → Type 0) (size row i j : ℤ) (n : ℕ) → IsWi
     → IsWindowCount (IsBelow area size row) size i j n → IsWindowCount area size i j n
 low_count area size row i j n h less p =
     let up = multiples (j +ℤ pos 1) row size (some_size size h) (omega (arith, ints, less)) in
-    number_same (IsInWindow (IsBelow area size row) size i j) (IsInWindow area size i j) n
+    number_same (IsTakenInWindow (IsBelow area size row) size i j) (IsTakenInWindow area size i j) n
     (λ t w. record { inside = w.inside; taken = w.taken.taken })
     (λ t w. record { inside = w.inside; taken = record { below = (let b = w.inside.below_top in omega (arith, ints, b, up)); taken = w.taken } })
     p
@@ -129,7 +129,7 @@ low_count area size row i j n h less p =
 pub high_count : (area : Tile → Type 0) (size row i j : ℤ) → IsWindowSize size → row ≤ℤ j → IsWindowCount (IsBelow area size row) size i j 0
 high_count area size row i j h more =
     let up = multiples row j size (some_size size h) more in
-    number_none (IsInWindow (IsBelow area size row) size i j) (λ t w. (
+    number_none (IsTakenInWindow (IsBelow area size row) size i j) (λ t w. (
     let a = w.inside.above_bottom in
     let b = w.taken.below in
     omega (arith, ints, a, b, up)
@@ -159,7 +159,7 @@ passed_entries area size row up entries h more none are =
     record {
       ascending = are.ascending;
       above_zero = are.above_zero;
-      counts = λ i j. number_same (IsInWindow (IsBelow area size row) size i j) (IsInWindow (IsBelow area size up) size i j) (listed i j entries)
+      counts = λ i j. number_same (IsTakenInWindow (IsBelow area size row) size i j) (IsTakenInWindow (IsBelow area size up) size i j) (listed i j entries)
           (λ t w. record { inside = w.inside; taken = record { below = (let b = w.taken.below in omega (arith, ints, b, rise)); taken = w.taken.taken } })
           (λ t w. record { inside = w.inside; taken = passed_below area size row up none t w.taken })
           (are.counts i j);
@@ -206,17 +206,17 @@ numbers area size [] some ascending have = number_none (IsInOneOf area size []) 
 numbers area size (e ∷ es) some ascending have =
     let here = All-head (λ (x : Entry). IsWindowCount area size x.column x.row x.tiles) e es have in
     let rest = numbers area size es some ascending.1 (All-tail (λ (x : Entry). IsWindowCount area size x.column x.row x.tiles) e es have) in
-    let both = number_sum (IsInWindow area size e.column e.row) (IsInOneOf area size es) e.tiles (sum_of es)
+    let both = number_sum (IsTakenInWindow area size e.column e.row) (IsInOneOf area size es) e.tiles (sum_of es)
     (λ t p q. apart_of_all size e es t some ascending.0 p.inside q.inside) here rest in
     subst (λ (n : ℕ). IsNumberIn (IsInOneOf area size (e ∷ es)) n) (sym (sum_by-cons (λ (x : Entry). x.tiles) e es))
-    (number_same (λ t. IsInWindow area size e.column e.row t ⊎ IsInOneOf area size es t) (IsInOneOf area size (e ∷ es))
+    (number_same (λ t. IsTakenInWindow area size e.column e.row t ⊎ IsInOneOf area size es t) (IsInOneOf area size (e ∷ es))
     (e.tiles + sum_of es) (λ t h. to t h) (λ t h. from t h.taken h.inside) both)
   where
-    to : (t : Tile) → IsInWindow area size e.column e.row t ⊎ IsInOneOf area size es t → IsInOneOf area size (e ∷ es) t
+    to : (t : Tile) → IsTakenInWindow area size e.column e.row t ⊎ IsInOneOf area size es t → IsInOneOf area size (e ∷ es) t
     to t (inl p) = record { taken = p.taken; inside = inl p.inside }
     to t (inr q) = record { taken = q.taken; inside = inr q.inside }
 
-    from : (t : Tile) → area t → IsInOne size (e ∷ es) t → IsInWindow area size e.column e.row t ⊎ IsInOneOf area size es t
+    from : (t : Tile) → area t → IsInOne size (e ∷ es) t → IsTakenInWindow area size e.column e.row t ⊎ IsInOneOf area size es t
     from t taken (inl p) = inl (record { inside = p; taken = taken })
     from t taken (inr q) = inr (record { taken = taken; inside = q })
 

@@ -12,14 +12,15 @@ use Rattle.half_grid.specs.Windows.{RowRange}
 use Rattle.depot.specs.Content.{Content, with_said, IsPartSaid}
 use Rattle.depot.specs.Printing.{IsSaidButFor}
 use Rattle.depot.proofs.ForCallers.{hold_more, part_held, said_then, say_held}
-use Rattle.density_map.specs.Windows.{IsWindowSize, IsNumberIn}
+use Rattle.density_map.specs.Windows.{IsWindowSize}
+use Rattle.half_grid.specs.Sizes.{IsNumberIn}
 use Rattle.deck_text.specs.declared.deck.Output.{Output}
-use Rattle.deck_plan.specs.Plans.{Planned}
+use Rattle.deck_plan.specs.Plans.{Planned, planned_area}
 use Rattle.density_report.specs.declared.entries.Entry.{Entry}
 use Rattle.density_report.specs.declared.entries.Totals.{Totals}
 use Rattle.density_report.specs.Tables.{Table, AreEntries, IsDensityTable}
 use Rattle.density_report.specs.Texts.{size_line, entry_line, most_line, triangles_line, front_text, table_text, tables_text}
-use Rattle.density_report.specs.Saying.{area_of, AreTables, IsSaid}
+use Rattle.density_report.specs.Saying.{AreTables, IsSaid}
 use Rattle.density_report.specs.Rows.{HasRows, AreTotals, AreRowsPut, AreRowsCut, IsTablePut, IsTableCut, AreTablesPut, IsBeginningSaid}
 use Rattle.density_report.proofs.TableLemmas.{no_entries, total}
 
@@ -60,7 +61,7 @@ line_cut p k size row c₀ now held output rows here outside low part = (
     here = here;
     row = row;
     entries = [];
-    are = no_entries (area_of p k) size row (λ t a. (let from = (outside t a).from in omega (arith, ints, from, low)));
+    are = no_entries (planned_area p k) size row (λ t a. (let from = (outside t a).from in omega (arith, ints, from, low)));
     text = refl;
   }),
   subst (λ (l : List ℕ). IsPartSaid c₀ l now) (first_is size output.file held) part,
@@ -78,12 +79,12 @@ rows_cut p k size c₀ c₁ now held b₁ output here first cut = (
 
 -- it is the table of the area
 is_table : (p : Planned) (k : ℕ) (size : ℤ) (entries : List Entry) (totals : Totals) → IsWindowSize size
-    → AreEntries (area_of p k) size entries → AreTotals entries totals
-    → IsDensityTable (area_of p k) size (table_of entries totals)
+    → AreEntries (planned_area p k) size entries → AreTotals entries totals
+    → IsDensityTable (planned_area p k) size (table_of entries totals)
 is_table p k size entries totals h are of = record {
   entries = are;
   most = of.greatest;
-  triangles = subst (λ (n : ℕ). IsNumberIn (area_of p k) n) (sym of.sum) (total (area_of p k) size entries h are);
+  triangles = subst (λ (n : ℕ). IsNumberIn (planned_area p k) n) (sym of.sum) (total (planned_area p k) size entries h are);
 }
 
 module _ (p : Planned) (k : ℕ) (size : ℤ) (tells : Bool) (c₀ c₁ c₂ : Content) (held b₁ b₂ : List ℕ) (output : Output) (totals : Totals)
@@ -154,14 +155,14 @@ module _ (p : Planned) (size : ℤ) where
   no_tables = record { each = λ k less. absurd (omega (arith, less)); count = refl }
 
   pub next_tables : (n : ℕ) (tables : List Table) (table : Table) → AreTables p size n tables
-      → IsDensityTable (area_of p n) size table → AreTables p size (suc n) (tables ++ table ∷ [])
+      → IsDensityTable (planned_area p n) size table → AreTables p size (suc n) (tables ++ table ∷ [])
   next_tables n tables table are is = record {
     each = λ k less. by k less (nat_lt k n) refl;
     count = (let both = length-append tables (table ∷ []) in omega (arith, both, are.count));
   }
     where
       by : (k : ℕ) → k < suc n → (b : Bool) → nat_lt k n ≡ b → (found : Table)
-          × (slice_get (tables ++ table ∷ []) k ≡ Some found) × IsDensityTable (area_of p k) size found
+          × (slice_get (tables ++ table ∷ []) k ≡ Some found) × IsDensityTable (planned_area p k) size found
       by k less true e =
           let found = are.each k (grind (arith, nat_tests)) in
           (found.0, get_push tables table found.0 k found.1, found.2)
@@ -169,7 +170,7 @@ module _ (p : Planned) (size : ℤ) where
           let last : n ≡ k = grind (arith, nat_tests) in (
             table,
             subst (λ (m : ℕ). slice_get (tables ++ table ∷ []) m ≡ Some table) last (get_last tables table n are.count),
-            subst (λ (m : ℕ). IsDensityTable (area_of p m) size table) last is,
+            subst (λ (m : ℕ). IsDensityTable (planned_area p m) size table) last is,
           )
 
   more_text : (n : ℕ) (tables : List Table) (table : Table) (output : Output) → slice_get p.deck.outputs n ≡ Some output → length tables ≡ n

@@ -1,7 +1,7 @@
 -- ---- what is promised, in reading order
 pub mod Tables
-pub mod Texts
 pub mod Saying
-pub mod Laws
+pub mod Texts
 -- ---- what is kept inside
+pub mod Laws
 pub mod Rows

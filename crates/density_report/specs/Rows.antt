@@ -15,7 +15,7 @@ use Rattle.density_map.specs.Windows.{IsWindowSize, IsWindowCount}
 use Rattle.bool_ops.specs.Operations.{IsInRows, IsJoinedOf}
 use Rattle.deck_text.specs.declared.deck.Output.{Output}
 use Rattle.deck_plan.specs.Areas.{IsInBand}
-use Rattle.deck_plan.specs.Plans.{Planned}
+use Rattle.deck_plan.specs.Plans.{Planned, planned_area}
 use Rattle.depot.specs.Printing.{IsSaidButFor}
 use Rattle.density_report.specs.declared.entries.Entry.{Entry}
 use Rattle.density_report.specs.declared.entries.Totals.{Totals}
@@ -23,7 +23,7 @@ use Rattle.density_report.specs.declared.strips.Batch.{Batch}
 use Rattle.density_report.specs.declared.strips.Portion.{Portion}
 use Rattle.density_report.specs.Tables.{Table, AreEntries, IsMost, IsDensityTable}
 use Rattle.density_report.specs.Texts.{entry_line, front_text, table_text, tables_text}
-use Rattle.density_report.specs.Saying.{area_of, AreTables}
+use Rattle.density_report.specs.Saying.{AreTables}
 
 -- a count of a row of windows, as an entry, and all of them
 abbrev pub entry_of : ℤ → Counted → Entry
@@ -57,7 +57,7 @@ pub record AreRowCounts (area : Tile → Type 0) (size row : ℤ) (counts : List
 
 -- no tile of the output's area lies outside the rows
 abbrev pub HasRows : Planned → ℕ → RowRange → Type 0
-HasRows p k rows = (t : Tile) → area_of p k t → IsInRows rows t
+HasRows p k rows = (t : Tile) → planned_area p k t → IsInRows rows t
 
 -- the tiles of an area below some row of windows
 pub record IsBelow (area : Tile → Type 0) (size row : ℤ) (t : Tile) : Type 0 where
@@ -68,7 +68,7 @@ pub record IsBelow (area : Tile → Type 0) (size row : ℤ) (t : Tile) : Type 0
 pub record AreRowsPut (p : Planned) (k : ℕ) (size : ℤ) (tells : Bool) (before : Content) (held : List ℕ) (totals : Totals) (left : List ℕ)
     (now : Content) : Type 0 where
   pub entries : List Entry
-  pub are : AreEntries (area_of p k) size entries
+  pub are : AreEntries (planned_area p k) size entries
   pub totals_of : AreTotals entries totals
   pub content : IsTrue tells → IsSaidButFor before (held ++ flat_map entry_line entries) left now
 
@@ -76,7 +76,7 @@ pub record AreRowsPut (p : Planned) (k : ℕ) (size : ℤ) (tells : Bool) (befor
 pub record AreRowsCut (p : Planned) (k : ℕ) (size : ℤ) (before : Content) (held : List ℕ) (now : Content) : Type 0 where
   pub row : ℤ
   pub entries : List Entry
-  pub are : AreEntries (IsBelow (area_of p k) size row) size entries
+  pub are : AreEntries (IsBelow (planned_area p k) size row) size entries
   pub content : IsPartSaid before (held ++ flat_map entry_line entries) now
 
 -- the table of output k was put
@@ -84,7 +84,7 @@ pub record IsTablePut (p : Planned) (k : ℕ) (size : ℤ) (tells : Bool) (befor
   pub output : Output
   pub here : slice_get p.deck.outputs k ≡ Some output
   pub table : Table
-  pub is : IsDensityTable (area_of p k) size table
+  pub is : IsDensityTable (planned_area p k) size table
   pub content : IsTrue tells → IsSaidButFor before (held ++ table_text size (output, table)) left now
 
 -- the bytes are the first lines of the table of output k: those of the windows below some row of windows
@@ -93,14 +93,14 @@ pub record IsFront (p : Planned) (size : ℤ) (k : ℕ) (bytes : List ℕ) : Typ
   pub here : slice_get p.deck.outputs k ≡ Some output
   pub row : ℤ
   pub entries : List Entry
-  pub are : AreEntries (IsBelow (area_of p k) size row) size entries
+  pub are : AreEntries (IsBelow (planned_area p k) size row) size entries
   pub text : bytes ≡ front_text size output.file entries
 
 -- the bytes begin the text of the table of output k: they are its first lines or the whole
 abbrev pub BeginsTable : Planned → ℕ → ℤ → List ℕ → Type 0
 BeginsTable p k size bytes =
     IsFront p size k bytes
-    ⊎ ((output : Output) × (table : Table) × (slice_get p.deck.outputs k ≡ Some output) × IsDensityTable (area_of p k) size table
+    ⊎ ((output : Output) × (table : Table) × (slice_get p.deck.outputs k ≡ Some output) × IsDensityTable (planned_area p k) size table
     × (bytes ≡ table_text size (output, table)))
 
 -- a prefix of what begins it was said

@@ -7,7 +7,8 @@ use Rattle.std.specs.Prelude.{ℕ, ℤ, ◌≡◌, ◌⊎◌, ◌<◌, ◌≤◌
 use Rattle.std.specs.Ordering.{int_eq}
 use Rattle.std.specs.List.{All}
 use Rattle.half_grid.specs.declared.plane.Tile.{Tile}
-use Rattle.density_map.specs.Windows.{IsNumberIn, IsWindowCount}
+use Rattle.density_map.specs.Windows.{IsWindowCount}
+use Rattle.half_grid.specs.Sizes.{IsNumberIn}
 use Rattle.density_report.specs.declared.entries.Entry.{Entry}
 
 -- the first is listed before the second

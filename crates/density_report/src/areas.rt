@@ -3,7 +3,7 @@ ghost use Rattle.std.specs.Prelude.{◌≡◌, ◌<◌, ℤ, ◌*ℤ◌, ◌≤�
 ghost use Rattle.std.specs.List.{All};
 ghost use Rattle.half_grid.specs.JoinedLists.{IsInWindow};
 ghost use Rattle.density_map.specs.Windows.{IsWindowSize};
-ghost use Rattle.density_report.specs.Saying.{area_of};
+ghost use Rattle.deck_plan.specs.Plans.{planned_area};
 ghost use Rattle.density_report.specs.Rows.{rows_of, AreFewRows, AreTrapsOf, IsBatch, IsFilled, IsPassed, IsPortion};
 
 use crate::maps::put_maps;
@@ -78,7 +78,7 @@ fn skip(
     requires output { output < length plan.now.deck.outputs }
     requires left { IsBatch left.now }
     requires portion { IsPortion left.now.mesh.size portion }
-    ensures { IfOk result (λ new. IsPassed (area_of plan.now output) left.now new) }
+    ensures { IfOk result (λ new. IsPassed (planned_area plan.now output) left.now new) }
 {
     let mut rest = *left;
     let mut portion = portion;
@@ -111,7 +111,7 @@ pub(crate) fn fill(
     requires portion { IsPortion left.now.mesh.size portion }
     requires some { left.now.row <ℤ left.now.end }
     requires empty { maps.old.items ≡ [] }
-    ensures { IfOk result (λ new. IsFilled (area_of plan.now output) left.now new maps.new.items) }
+    ensures { IfOk result (λ new. IsFilled (planned_area plan.now output) left.now new maps.new.items) }
 {
     let batch = lower(left, &portion);
     let traps = area_in(alloc, plan, output, &batch)?;

@@ -2,7 +2,7 @@
 ghost use Rattle.std.specs.Prelude.{◌≡◌, pos, neg_ℤ, ◌^◌, ◌+ℤ◌, ◌-ℤ◌, ◌*ℤ◌, ◌≤ℤ◌, ◌<ℤ◌};
 ghost use Rattle.std.specs.Int.{int_gap, int_min};
 ghost use Rattle.depot.specs.declared.outside.Phase.TheVariants.{Counting};
-ghost use Rattle.density_map.specs.Frames.{IsNear};
+ghost use Rattle.density_map.specs.Frames.{IsNearSide};
 ghost use Rattle.density_map.specs.Windows.{IsWindowSize};
 ghost use Rattle.density_report.specs.Rows.{rows_of, AreNearRows, HoldRows, IsBatch, IsPart, IsPortion};
 
@@ -48,10 +48,10 @@ pub(crate) struct Portion {
 /// The row of windows that has the row `y` of the half grid.
 pub(crate) fn row_of(mesh: &Mesh, y: i64) -> i64
     requires size { IsWindowSize mesh.now.size }
-    requires y { IsNear y }
+    requires y { IsNearSide y }
     ensures from { (result *ℤ mesh.now.size) ≤ℤ y }
     ensures below { y <ℤ ((result +ℤ pos 1) *ℤ mesh.now.size) }
-    ensures near { IsNear result }
+    ensures near { IsNearSide result }
 {
     y.div_euclid(mesh.size)
 }

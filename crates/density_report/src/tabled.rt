@@ -3,8 +3,9 @@ ghost use Rattle.std.specs.Prelude.{◌<◌, List, length};
 ghost use Rattle.density_map.specs.Windows.{IsWindowSize};
 ghost use Rattle.deck_plan.specs.Bands.{AreRowsNear};
 ghost use Rattle.density_report.specs.Tables.{Table, IsDensityTable};
-ghost use Rattle.density_report.specs.Saying.{area_of, AreTables};
+ghost use Rattle.density_report.specs.Saying.{AreTables};
 ghost use Rattle.density_report.specs.Rows.{HasRows};
+ghost use Rattle.deck_plan.specs.Plans.{planned_area};
 
 use crate::strips::Mesh;
 use deck_plan::Plan;
@@ -16,7 +17,7 @@ fn has_table_in(plan: &Plan, output: usize, mesh: &Mesh, _rows: Window)
     requires size { IsWindowSize mesh.now.size }
     requires near { AreRowsNear _rows }
     requires outside { HasRows plan.now output _rows }
-    ensures { (table : Table) × IsDensityTable (area_of plan.now output) mesh.now.size table }
+    ensures { (table : Table) × IsDensityTable (planned_area plan.now output) mesh.now.size table }
 {
     plan.has_lists(output);
 }
@@ -25,7 +26,7 @@ fn has_table_in(plan: &Plan, output: usize, mesh: &Mesh, _rows: Window)
 fn has_table(plan: &Plan, output: usize, mesh: &Mesh)
     requires output { output < length plan.now.deck.outputs }
     requires size { IsWindowSize mesh.now.size }
-    ensures { (table : Table) × IsDensityTable (area_of plan.now output) mesh.now.size table }
+    ensures { (table : Table) × IsDensityTable (planned_area plan.now output) mesh.now.size table }
 {
     let rows = plan.rows(output);
     has_table_in(plan, output, mesh, rows);

@@ -3,7 +3,7 @@ ghost use Rattle.std.specs.Prelude.{◌<◌, IsTrue, IfOk, OnOk, OnErr, length};
 ghost use Rattle.depot.specs.Counting.{CountsWritesInMemory};
 ghost use Rattle.density_map.specs.Windows.{IsWindowSize};
 ghost use Rattle.deck_plan.specs.Bands.{AreRowsNear};
-ghost use Rattle.density_report.specs.Saying.{IsSaid, IsCutShort};
+ghost use Rattle.density_report.specs.Saying.{IsSaid, IsDensityCutShort};
 ghost use Rattle.density_report.specs.Rows.{HasRows, AreRowsPut, AreRowsCut, IsTablePut, IsTableCut, IsBeginningSaid};
 
 use crate::areas::fill;
@@ -132,7 +132,7 @@ pub fn say_densities<D: Depot>(
     requires size { IsWindowSize size }
     ensures ok { OnOk result (IsSaid plan.now size D.tells (D.content depot.old) (D.content depot.new)) }
     ensures refused { OnErr result (IsTrue D.tells
-        → IsCutShort plan.now size (D.content depot.old) (D.content depot.new)) }
+        → IsDensityCutShort plan.now size (D.content depot.old) (D.content depot.new)) }
     ensures counts { CountsWritesInMemory (D.counts depot.old) (D.counts depot.new) result }
 {
     let mesh = Mesh { size };

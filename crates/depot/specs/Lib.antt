@@ -1,6 +1,7 @@
 -- ---- what is promised, in reading order
-pub mod Content
 pub mod Counts
+pub mod Content
+-- ---- what is kept inside
 pub mod Counting
 pub mod Printing
 pub mod Doing
@@ -9,7 +10,6 @@ pub mod StoreView
 pub mod Filing
 pub mod Memory
 pub mod Sure
--- ---- what is kept inside
 pub mod Shelves
 pub mod Targets
 pub mod Tallies

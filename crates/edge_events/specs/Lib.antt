@@ -1,4 +1,4 @@
--- ---- what is promised, in reading order
+-- ---- what is kept inside
 pub mod EventNumbers
 pub mod Orders
 pub mod Sources

@@ -1,2 +1,2 @@
--- ---- what is promised, in reading order
+-- ---- what is kept inside
 pub mod Shown

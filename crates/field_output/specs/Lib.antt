@@ -1,4 +1,4 @@
--- ---- what is promised
+-- ---- what is promised, in reading order
 pub mod Stripes
 -- ---- what is kept inside
 pub mod Meeting

@@ -7,7 +7,7 @@ use Rattle.half_grid.specs.Trapezoids.{Trapezoid, IsShot}
 use Rattle.field_split.specs.declared.in_hand.InHand.{InHand}
 use Rattle.field_split.specs.Fields.{IsFieldSize, IsInStretch, IsStripeList}
 use Rattle.field_split.specs.Looks.{IsFieldShot}
-use Rattle.field_split.specs.Cutting.{IsNear, in_stripe, pieces_of, pieces_of_part, pieces_of_shot, number_of_fields, first_field, most_fields, most_pieces}
+use Rattle.field_split.specs.Cutting.{IsNearFieldLine, in_stripe, pieces_of, pieces_of_part, pieces_of_shot, number_of_fields, first_field, most_fields, most_pieces}
 use Rattle.field_split.specs.Pieces.{HasFewPieces, pieces_in_hand}
 use Rattle.field_split.specs.StreamLaws.{across_length, shots_length}
 use Rattle.field_split.proofs.Numbers.{next_start}
@@ -48,12 +48,12 @@ room hand after before whole old few fewer h =
 
 -- ---- a stripe of a row within reach
 
-pub near_low : (size k y : ℤ) → IsFieldSize size → IsWithinReach y → IsInStretch size k y → IsNear (k *ℤ size)
+pub near_low : (size k y : ℤ) → IsFieldSize size → IsWithinReach y → IsInStretch size k y → IsNearFieldLine (k *ℤ size)
 near_low size k y sized reach s =
     let next = next_start k size in
     record { low = omega (arith, ints, s.below, next, reach.low, sized.most); high = omega (arith, ints, s.from, reach.high) }
 
-pub near_high : (size k y : ℤ) → IsFieldSize size → IsWithinReach y → IsInStretch size k y → IsNear ((k +ℤ pos 1) *ℤ size)
+pub near_high : (size k y : ℤ) → IsFieldSize size → IsWithinReach y → IsInStretch size k y → IsNearFieldLine ((k +ℤ pos 1) *ℤ size)
 near_high size k y sized reach s =
     let next = next_start k size in
     record { low = omega (arith, ints, s.below, reach.low); high = omega (arith, ints, s.from, next, reach.high, sized.most) }

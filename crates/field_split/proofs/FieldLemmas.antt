@@ -10,8 +10,8 @@ use Rattle.half_grid.specs.declared.plane.Tile.{Tile}
 use Rattle.half_grid.proofs.ForCallers.{number_between, legal_places, one_joined_list, same_tiles, i_low, i_high}
 use Rattle.geo_stream.specs.Flattened.{end_to_end}
 use Rattle.field_split.specs.declared.parts.Columns.{Columns}
-use Rattle.field_split.specs.Fields.{IsFieldSize, IsInStretch, IsInField, stripe_rows, IsInPart, IsPartList, ArePartLists, IsSplit}
-use Rattle.field_split.specs.Cutting.{count_of, columns, pieces_in, pieces_across, in_stripe, least_x, greatest_x}
+use Rattle.field_split.specs.Fields.{IsFieldSize, IsInStretch, IsInField, stripe_rows, IsInFieldPart, IsPartList, ArePartLists, AreShotPieces}
+use Rattle.field_split.specs.Cutting.{natural_of, columns, pieces_in, pieces_across, in_stripe, least_x, greatest_x}
 use Rattle.field_split.specs.Cutting.{first_field, last_field, number_of_fields, pieces_of_part, pieces_of_shot}
 use Rattle.field_split.specs.Cutting.{piece_shape, rows}
 use Rattle.field_split.proofs.Turns.{lt_yes, lt_true, lt_false}
@@ -58,8 +58,8 @@ module _ (f : ℤ → List Trapezoid) where
   wider n m low all a b left right =
       let before = count_is (m -ℤ low) (omega (arith, ints, a)) in
       let after = count_is ((low +ℤ pos all) -ℤ (m +ℤ pos n)) (omega (arith, ints, b)) in
-      let d = count_of (m -ℤ low) in
-      let e = count_of ((low +ℤ pos all) -ℤ (m +ℤ pos n)) in
+      let d = natural_of (m -ℤ low) in
+      let e = natural_of ((low +ℤ pos all) -ℤ (m +ℤ pos n)) in
       let sum : all ≡ d + (n + e) = omega (arith, ints, before, after) in
       ap (λ (x : ℕ). listed_from f x low) sum ∙ more_left d (n + e) low m (omega (arith, ints, before)) left ∙ more_right n e m right
 
@@ -71,7 +71,7 @@ module _ (f : ℤ → List Trapezoid) where
       let low = int_min j k in
       let high = int_max (j +ℤ pos n) (k +ℤ pos m) in
       let all = count_is (high -ℤ low) (omega (arith, ints, clamps)) in
-      let number = count_of (high -ℤ low) in
+      let number = natural_of (high -ℤ low) in
       sym (wider n j low number (omega (arith, ints, clamps)) (omega (arith, ints, clamps, all)) a b)
       ∙ wider m k low number (omega (arith, ints, clamps)) (omega (arith, ints, clamps, all)) c d
 
@@ -176,10 +176,10 @@ module _ (size k : ℤ) (sized : IsFieldSize size) (z : Trapezoid) (legal : IsLe
   field_wide : (m : ℤ) → (m *ℤ size) <ℤ ((m +ℤ pos 1) *ℤ size)
   field_wide m = rw (next_start m size) (omega (arith, ints, some_size))
 
-  in_columns : (m : ℤ) (t : Tile) → IsInPart size m k z t → IsInColumns part (field_columns m) t
+  in_columns : (m : ℤ) (t : Tile) → IsInFieldPart size m k z t → IsInColumns part (field_columns m) t
   in_columns m t h = record { inside = in_part size k z t h.inside h.field.row; from = h.field.column.from; below = h.field.column.below }
 
-  pub columns_in : (m : ℤ) (t : Tile) → IsInColumns part (field_columns m) t → IsInPart size m k z t
+  pub columns_in : (m : ℤ) (t : Tile) → IsInColumns part (field_columns m) t → IsInFieldPart size m k z t
   columns_in m t h = record {
     inside = part_in size k z t h.inside;
     field =
@@ -211,9 +211,9 @@ module _ (size k : ℤ) (sized : IsFieldSize size) (z : Trapezoid) (legal : IsLe
   field_list_is m = list_of has_rows refl m
 
   one_part_list : (m : ℤ) (xs ys : List Trapezoid) → IsPartList size m k z xs → IsPartList size m k z ys → xs ≡ ys
-  one_part_list m xs ys p q = one_joined_list (stripe_rows size k) xs ys p.joined q.joined (same_tiles (IsInPart size m k z) xs ys p.covers q.covers)
+  one_part_list m xs ys p q = one_joined_list (stripe_rows size k) xs ys p.joined q.joined (same_tiles (IsInFieldPart size m k z) xs ys p.covers q.covers)
 
-  empty_field : (m : ℤ) → ((t : Tile) → IsInPart size m k z t → ⊥) → field_list m ≡ []
+  empty_field : (m : ℤ) → ((t : Tile) → IsInFieldPart size m k z t → ⊥) → field_list m ≡ []
   empty_field m none =
       one_part_list m (field_list m) [] (field_list_is m)
       (record {
@@ -226,7 +226,7 @@ module _ (size k : ℤ) (sized : IsFieldSize size) (z : Trapezoid) (legal : IsLe
   lists_are m [] p = refl
   lists_are m (x ∷ lists) p = rw (one_part_list m x (field_list m) p.0 (field_list_is m), lists_are (m +ℤ pos 1) lists p.1) refl
 
-  module _ {pieces : List Trapezoid} (p : IsSplit size k z pieces) where
+  module _ {pieces : List Trapezoid} (p : AreShotPieces size k z pieces) where
     none_before : (i : ℤ) → i <ℤ p.first → field_list i ≡ []
     none_before i h =
         empty_field i (λ t inside.
@@ -244,7 +244,7 @@ module _ (size k : ℤ) (sized : IsFieldSize size) (z : Trapezoid) (legal : IsLe
         omega (arith, ints, high, up, from)))
 
   -- a shot has one list of pieces in a stripe
-  pub one_split : (xs ys : List Trapezoid) → IsSplit size k z xs → IsSplit size k z ys → xs ≡ ys
+  pub one_split : (xs ys : List Trapezoid) → AreShotPieces size k z xs → AreShotPieces size k z ys → xs ≡ ys
   one_split xs ys p q =
       p.is ∙ lists_are p.first p.lists p.parts
       ∙ same_listed field_list (length p.lists) (length q.lists) p.first q.first (none_before p) (none_after p) (none_before q) (none_after q)
@@ -307,7 +307,7 @@ module _ (size k : ℤ) (sized : IsFieldSize size) (z : Trapezoid) (legal : IsLe
     unfolding number_of_fields
     fields_number = let is = count_is ((last_field size part -ℤ first_field size part) +ℤ pos 1) (omega (arith, ints, fields_order)) in omega (arith, ints, is)
 
-    split_some : IsSplit size k z (pieces_of_part size part)
+    split_some : AreShotPieces size k z (pieces_of_part size part)
     unfolding pieces_of_part
     split_some =
         let number = number_of_fields size part in
@@ -327,7 +327,7 @@ module _ (size k : ℤ) (sized : IsFieldSize size) (z : Trapezoid) (legal : IsLe
           is = across_is number start;
         }
 
-  split_of : (b : Bool) → has_rows ≡ b → IsSplit size k z (cond b (pieces_of_part size part) [])
+  split_of : (b : Bool) → has_rows ≡ b → AreShotPieces size k z (cond b (pieces_of_part size part) [])
   split_of true e = split_some (lt_true part.y0 part.y1 e)
   split_of false e =
       let none = no_rows (lt_false part.y0 part.y1 e) in
@@ -341,7 +341,7 @@ module _ (size k : ℤ) (sized : IsFieldSize size) (z : Trapezoid) (legal : IsLe
       }
 
   -- the computed list is that of the shot
-  pub split_is : IsSplit size k z (pieces_of_shot size k z)
+  pub split_is : AreShotPieces size k z (pieces_of_shot size k z)
   unfolding pieces_of_shot
   split_is = split_of has_rows refl
 

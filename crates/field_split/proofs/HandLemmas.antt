@@ -10,7 +10,7 @@ use Rattle.field_split.specs.declared.in_hand.InHand.{InHand}
 use Rattle.field_split.specs.declared.parts.Columns.{Columns}
 use Rattle.field_split.specs.Fields.{IsFieldSize}
 use Rattle.field_split.specs.Looks.{IsWithinFieldReach, IsFieldShot}
-use Rattle.field_split.specs.Cutting.{least_x, greatest_x, first_field, last_field, number_of_fields, count_of}
+use Rattle.field_split.specs.Cutting.{least_x, greatest_x, first_field, last_field, number_of_fields, natural_of}
 use Rattle.field_split.specs.Cutting.{most_fields, columns, rows_in, pieces_in, pieces_across, lower_piece}
 use Rattle.field_split.specs.Cutting.{middle_piece, upper_piece, in_stripe, pieces_of_part, pieces_of_shot}
 use Rattle.field_split.specs.Pieces.{shape_of, shape_of_some, waiting, waiting_in, pieces_ahead, pieces_in_hand}
@@ -73,15 +73,15 @@ module _ (size : ℤ) (sized : IsFieldSize size) (z : Trapezoid) (shot : IsShot 
       absurd (omega (arith, ints, more, away, low.below, high.from, width))))
       (λ le. omega (arith, ints, le))
 
-  pub number_is : number_of_fields size z ≡ count_of (last_field size z -ℤ first_field size z) + 1
+  pub number_is : number_of_fields size z ≡ natural_of (last_field size z -ℤ first_field size z) + 1
   unfolding number_of_fields
   number_is =
       let before = count_is (last_field size z -ℤ first_field size z) (omega (arith, ints, fields_order)) in
       let all = count_is ((last_field size z -ℤ first_field size z) +ℤ pos 1) (omega (arith, ints, fields_order)) in
       omega (arith, ints, before, all)
 
-pub count_abs : (a b : ℤ) → pos 0 ≤ℤ a → a ≡ b → unsigned_abs a ≡ count_of b
-count_abs (pos n) b h e = ap count_of e
+pub count_abs : (a b : ℤ) → pos 0 ≤ℤ a → a ≡ b → unsigned_abs a ≡ natural_of b
+count_abs (pos n) b h e = ap natural_of e
 count_abs (negsuc n) b h e = absurd (omega (arith, ints, h))
 
 pub count_small : (a : ℤ) → pos 0 ≤ℤ a → a ≤ℤ pos 33554432 → unsigned_abs a + 1 ≤ most_fields

@@ -6,7 +6,7 @@ use Rattle.std.proofs.Math.IntN.{+ℤ_one, suc_ℤ-*ℤ}
 use Rattle.std.proofs.Math.Nat.{mod-lt}
 use Rattle.std.proofs.lemmas.Nat.{div-add-mod'}
 use Rattle.std.specs.Int.{int_div_euclid}
-use Rattle.field_split.specs.Cutting.{count_of}
+use Rattle.field_split.specs.Cutting.{natural_of}
 use Rattle.field_split.specs.Fields.{IsInStretch}
 use borrow.Author.Differences.{up, down}
 
@@ -62,6 +62,6 @@ same_stretch size m n v some p q =
     omega (arith, ints, up, back)
 
 -- counts
-pub count_is : (z : ℤ) → pos 0 ≤ℤ z → pos (count_of z) ≡ z
+pub count_is : (z : ℤ) → pos 0 ≤ℤ z → pos (natural_of z) ≡ z
 count_is (pos n) h = refl
 count_is (negsuc n) h = absurd (omega (arith, ints, h))

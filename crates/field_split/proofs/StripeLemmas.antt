@@ -4,7 +4,7 @@ use Rattle.std.proofs.lemmas.List.Elements.{All-nil, All-head, All-tail, All-app
 use Rattle.std.specs.List.{All, AllZip}
 use Rattle.half_grid.specs.Trapezoids.{Trapezoid, IsShot, FitsLimits}
 use Rattle.geo_stream.specs.Flattened.{end_to_end}
-use Rattle.field_split.specs.Fields.{IsFieldSize, IsSplit, IsStripeList}
+use Rattle.field_split.specs.Fields.{IsFieldSize, AreShotPieces, IsStripeList}
 use Rattle.field_split.specs.Laws.{LiesInOneField}
 use Rattle.field_split.specs.Cutting.{pieces_of_shot, pieces_of}
 use Rattle.field_split.proofs.FieldLemmas.{one_split, split_is, shot_pieces_shots, shot_pieces_fit, shot_pieces_in_fields}
@@ -14,7 +14,7 @@ mapped_end f [] = refl
 mapped_end f (z ∷ shots) = ap (λ (xs : List Trapezoid). f z ++ xs) (mapped_end f shots)
 
 module _ (size k : ℤ) (sized : IsFieldSize size) where
-  each_split : (shots : List Trapezoid) → All IsShot shots → AllZip (IsSplit size k) shots (map (pieces_of_shot size k) shots)
+  each_split : (shots : List Trapezoid) → All IsShot shots → AllZip (AreShotPieces size k) shots (map (pieces_of_shot size k) shots)
   each_split [] h = tt
   each_split (z ∷ shots) h = (split_is size k sized z (All-head IsShot z shots h).legal, each_split shots (All-tail IsShot z shots h))
 
@@ -22,7 +22,7 @@ module _ (size k : ℤ) (sized : IsFieldSize size) where
   stripe_list_is shots h = record { lists = map (pieces_of_shot size k) shots; each = each_split shots h; is = mapped_end (pieces_of_shot size k) shots }
 
   same_lists : (shots : List Trapezoid) (xs ys : List (List Trapezoid)) → All IsShot shots
-      → AllZip (IsSplit size k) shots xs → AllZip (IsSplit size k) shots ys → xs ≡ ys
+      → AllZip (AreShotPieces size k) shots xs → AllZip (AreShotPieces size k) shots ys → xs ≡ ys
   same_lists [] [] [] h p q = refl
   same_lists [] [] (y ∷ ys) h p q = absurd q
   same_lists [] (x ∷ xs) ys h p q = absurd p

@@ -7,7 +7,7 @@ use Rattle.half_grid.specs.Trapezoids.{Trapezoid, IsInTrapezoid, trapezoid_has, 
 use Rattle.half_grid.specs.declared.plane.Tile.{Tile}
 use Rattle.half_grid.proofs.ForCallers.{has_in, in_has}
 use Rattle.geo_stream.specs.Flattened.{end_to_end}
-use Rattle.field_split.specs.Fields.{IsFieldSize, IsInStretch, IsInPart, ArePartLists, IsSplit, IsStripeList, AreStripeLists}
+use Rattle.field_split.specs.Fields.{IsFieldSize, IsInStretch, IsInFieldPart, ArePartLists, AreShotPieces, IsStripeList, AreStripeLists}
 use Rattle.field_split.specs.Looks.{IsWithinStripes}
 use Rattle.field_split.proofs.Stacks.{counted_in, counted_out, count_in-append}
 use Rattle.field_split.proofs.Numbers.{multiples}
@@ -20,7 +20,7 @@ module _ (size k : ℤ) (sized : IsFieldSize size) (t : Tile) where
   some_size = omega (arith, ints, sized.least)
 
   -- a tile in none of the fields is in no piece
-  parts_none : (z : Trapezoid) (m : ℤ) (lists : List (List Trapezoid)) → ((i : ℤ) → m ≤ℤ i → IsInPart size i k z t → ⊥)
+  parts_none : (z : Trapezoid) (m : ℤ) (lists : List (List Trapezoid)) → ((i : ℤ) → m ≤ℤ i → IsInFieldPart size i k z t → ⊥)
       → ArePartLists size m k z lists → count_in (end_to_end lists) t ≡ 0
   parts_none z m [] none p = omega arith
   parts_none z m (x ∷ lists) none p =
@@ -45,14 +45,14 @@ module _ (size k : ℤ) (sized : IsFieldSize size) (t : Tile) where
       let rest = parts_one z (m +ℤ pos 1) lists h r further (omega (arith, ints, high, up)) p.1 in
       omega (arith, count_in-append x (end_to_end lists) t, first, rest)))
 
-  split_in : (z : Trapezoid) (pieces : List Trapezoid) → IsSplit size k z pieces → IsInStretch size k t.j → IsInTrapezoid z t → count_in pieces t ≡ 1
+  split_in : (z : Trapezoid) (pieces : List Trapezoid) → AreShotPieces size k z pieces → IsInStretch size k t.j → IsInTrapezoid z t → count_in pieces t ≡ 1
   split_in z pieces p r h = ap (λ (xs : List Trapezoid). count_in xs t) p.is ∙ parts_one z p.first p.lists h r (p.none_left t h r) (p.none_right t h r) p.parts
 
-  split_out : (z : Trapezoid) (pieces : List Trapezoid) → IsSplit size k z pieces → ((i : ℤ) → IsInPart size i k z t → ⊥) → count_in pieces t ≡ 0
+  split_out : (z : Trapezoid) (pieces : List Trapezoid) → AreShotPieces size k z pieces → ((i : ℤ) → IsInFieldPart size i k z t → ⊥) → count_in pieces t ≡ 0
   split_out z pieces p none = ap (λ (xs : List Trapezoid). count_in xs t) p.is ∙ parts_none z p.first p.lists (λ i le h. none i h) p.parts
 
   counted_more : (z : Trapezoid) (shots pieces rest : List Trapezoid) (b : Bool) → trapezoid_has t z ≡ b
-      → IsInStretch size k t.j → IsSplit size k z pieces → count_in rest t ≡ count_in shots t
+      → IsInStretch size k t.j → AreShotPieces size k z pieces → count_in rest t ≡ count_in shots t
       → count_in (pieces ++ rest) t ≡ count_in (z ∷ shots) t
   counted_more z shots pieces rest true e r p h =
       let inside = has_in t z e in
@@ -62,7 +62,7 @@ module _ (size k : ℤ) (sized : IsFieldSize size) (t : Tile) where
       omega (arith, count_in-append pieces rest t, split_out z pieces p (λ i inside. out inside.inside), counted_out t z shots out, h)
 
   lists_counted : (shots : List Trapezoid) (lists : List (List Trapezoid)) → IsInStretch size k t.j
-      → AllZip (IsSplit size k) shots lists → count_in (end_to_end lists) t ≡ count_in shots t
+      → AllZip (AreShotPieces size k) shots lists → count_in (end_to_end lists) t ≡ count_in shots t
   lists_counted [] [] r p = refl
   lists_counted [] (x ∷ lists) r p = absurd p
   lists_counted (z ∷ shots) [] r p = absurd p
@@ -72,7 +72,7 @@ module _ (size k : ℤ) (sized : IsFieldSize size) (t : Tile) where
   stripe_counted shots pieces list r = ap (λ (xs : List Trapezoid). count_in xs t) list.is ∙ lists_counted shots list.lists r list.each
 
   lists_none : (shots : List Trapezoid) (lists : List (List Trapezoid)) → (IsInStretch size k t.j → ⊥)
-      → AllZip (IsSplit size k) shots lists → count_in (end_to_end lists) t ≡ 0
+      → AllZip (AreShotPieces size k) shots lists → count_in (end_to_end lists) t ≡ 0
   lists_none [] [] out p = omega arith
   lists_none [] (x ∷ lists) out p = absurd p
   lists_none (z ∷ shots) [] out p = absurd p

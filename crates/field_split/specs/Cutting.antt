@@ -24,15 +24,15 @@ abbrev pub columns : ℤ → ℤ → Columns
 columns x0 x1 = record { x0 = x0; x1 = x1 }
 
 -- no line of a field that a shot meets is further away
-pub record IsNear (x : ℤ) : Type 0 where
+pub record IsNearFieldLine (x : ℤ) : Type 0 where
   pub low : neg_ℤ (pos (2 ^ 56)) ≤ℤ x
   pub high : x ≤ℤ pos (2 ^ 56)
 
 -- columns of which there are some, none far away
 pub record AreColumns (cols : Columns) : Type 0 where
   pub some : cols.x0 <ℤ cols.x1
-  pub first : IsNear cols.x0
-  pub last : IsNear cols.x1
+  pub first : IsNearFieldLine cols.x0
+  pub last : IsNearFieldLine cols.x1
 
 -- ---- the pieces of a trapezoid in some columns
 
@@ -128,12 +128,12 @@ abbrev pub last_field : ℤ → Trapezoid → ℤ
 last_field size z = int_div_euclid (greatest_x z -ℤ pos 1) size
 
 -- a number that isn't negative, as a count
-abbrev pub count_of : ℤ → ℕ
-count_of (pos n) = n
-count_of (negsuc n) = 0
+abbrev pub natural_of : ℤ → ℕ
+natural_of (pos n) = n
+natural_of (negsuc n) = 0
 
 unfoldable pub number_of_fields : ℤ → Trapezoid → ℕ
-number_of_fields size z = count_of ((last_field size z -ℤ first_field size z) +ℤ pos 1)
+number_of_fields size z = natural_of ((last_field size z -ℤ first_field size z) +ℤ pos 1)
 
 -- the pieces of rows of a shot in all fields that they meet
 unfoldable pub pieces_of_part : ℤ → Trapezoid → List Trapezoid

@@ -34,14 +34,14 @@ abbrev pub stripe_rows : ℤ → ℤ → RowRange
 stripe_rows size k = row_range (k *ℤ size) ((k +ℤ pos 1) *ℤ size)
 
 -- the trapezoid's tiles in the field (m, k)
-pub record IsInPart (size m k : ℤ) (z : Trapezoid) (t : Tile) : Type 0 where
+pub record IsInFieldPart (size m k : ℤ) (z : Trapezoid) (t : Tile) : Type 0 where
   pub inside : IsInTrapezoid z t
   pub field : IsInField size m k t
 
 -- the joined list of these tiles in the window of the stripe's rows
 pub record IsPartList (size m k : ℤ) (z : Trapezoid) (pieces : List Trapezoid) : Type 0 where
   pub joined : IsJoined (stripe_rows size k) pieces
-  pub covers : CoversExactly pieces (IsInPart size m k z)
+  pub covers : CoversExactly pieces (IsInFieldPart size m k z)
 
 -- the same of the field (m, k) and of those right of it, one after another
 abbrev pub ArePartLists : ℤ → ℤ → ℤ → Trapezoid → List (List Trapezoid) → Type 0
@@ -50,7 +50,7 @@ ArePartLists size m k z (pieces ∷ lists) = IsPartList size m k z pieces × Are
 
 -- The pieces of a shot in stripe k: field by field from some first one on. The shot has no tile in the stripe's fields
 -- left of these, and none in those right of them.
-pub record IsSplit (size k : ℤ) (z : Trapezoid) (pieces : List Trapezoid) : Type 0 where
+pub record AreShotPieces (size k : ℤ) (z : Trapezoid) (pieces : List Trapezoid) : Type 0 where
   pub first : ℤ
   pub lists : List (List Trapezoid)
   pub parts : ArePartLists size first k z lists
@@ -61,7 +61,7 @@ pub record IsSplit (size k : ℤ) (z : Trapezoid) (pieces : List Trapezoid) : Ty
 -- the stripe list of these shots for stripe k: the pieces of each shot in order
 pub record IsStripeList (size k : ℤ) (shots pieces : List Trapezoid) : Type 0 where
   pub lists : List (List Trapezoid)
-  pub each : AllZip (IsSplit size k) shots lists
+  pub each : AllZip (AreShotPieces size k) shots lists
   pub is : pieces ≡ end_to_end lists
 
 -- the stripe lists of stripe k and of those above it, one after another

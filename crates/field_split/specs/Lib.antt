@@ -1,7 +1,7 @@
 -- ---- what is promised, in reading order
-pub mod Fields
 pub mod Looks
 pub mod Laws
+pub mod Fields
 -- ---- what is kept inside
 pub mod Cutting
 pub mod Pieces

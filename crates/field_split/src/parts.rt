@@ -6,7 +6,7 @@ ghost use Rattle.half_grid.specs.Lines.{first_strip, x_on};
 ghost use Rattle.half_grid.specs.Reach.{IsWithinReach};
 ghost use Rattle.half_grid.specs.Rows.{place};
 ghost use Rattle.half_grid.specs.Trapezoids.{IsShot};
-ghost use Rattle.field_split.specs.Cutting.{IsNear, AreColumns, piece_shape, meeting, turn, rows_left_of, rows_right_of, rows_in, left_in, right_in, piece, lower_piece, middle_piece, upper_piece};
+ghost use Rattle.field_split.specs.Cutting.{IsNearFieldLine, AreColumns, piece_shape, meeting, turn, rows_left_of, rows_right_of, rows_in, left_in, right_in, piece, lower_piece, middle_piece, upper_piece};
 ghost use Rattle.field_split.specs.Pieces.{shape_of, shape_of_some};
 
 use crate::part::Part;
@@ -43,7 +43,7 @@ pub(crate) struct PartsIn {
 // Where the line meets the wall; the first Y of the rows for an upright line.
 fn meeting(line: Line, wall: Wall, rows: Rows) -> i64
     requires line { IsWithinReach (first_strip line) }
-    requires wall { IsNear wall.x }
+    requires wall { IsNearFieldLine wall.x }
     ensures { result ≡ meeting line wall.x rows }
 {
     match line {
@@ -57,7 +57,7 @@ fn meeting(line: Line, wall: Wall, rows: Rows) -> i64
 #[tactic(auto, unfolding(crate::specs::Cutting::turn))]
 fn turn(line: Line, wall: Wall, rows: Rows) -> i64
     requires line { IsWithinReach (first_strip line) }
-    requires wall { IsNear wall.x }
+    requires wall { IsNearFieldLine wall.x }
     requires rows { rows.y0 ≤ℤ rows.y1 }
     ensures value { result ≡ turn line wall.x rows }
     ensures low { rows.y0 ≤ℤ result }
@@ -70,7 +70,7 @@ fn turn(line: Line, wall: Wall, rows: Rows) -> i64
 #[tactic(auto, unfolding(crate::specs::Cutting::rows_left_of, crate::specs::Cutting::turn))]
 fn rows_left_of(line: Line, wall: Wall, rows: Rows) -> Rows
     requires line { IsWithinReach (first_strip line) }
-    requires wall { IsNear wall.x }
+    requires wall { IsNearFieldLine wall.x }
     requires rows { rows.y0 ≤ℤ rows.y1 }
     ensures value { result ≡ rows_left_of line wall.x rows }
     ensures order { result.y0 ≤ℤ result.y1 }
@@ -97,7 +97,7 @@ fn rows_left_of(line: Line, wall: Wall, rows: Rows) -> Rows
 #[tactic(auto, unfolding(crate::specs::Cutting::rows_right_of, crate::specs::Cutting::turn))]
 fn rows_right_of(line: Line, wall: Wall, rows: Rows) -> Rows
     requires line { IsWithinReach (first_strip line) }
-    requires wall { IsNear wall.x }
+    requires wall { IsNearFieldLine wall.x }
     requires rows { rows.y0 ≤ℤ rows.y1 }
     ensures value { result ≡ rows_right_of line wall.x rows }
     ensures order { result.y0 ≤ℤ result.y1 }

@@ -1,7 +1,7 @@
 //! A stripe, and a shot's rows in it.
 ghost use Rattle.std.specs.Prelude.{◌≡◌, ◌<ℤ◌, ◌*ℤ◌, ◌+ℤ◌, pos, IfSome, IfNone};
 ghost use Rattle.half_grid.specs.Trapezoids.{IsShot};
-ghost use Rattle.field_split.specs.Cutting.{IsNear, rows, in_stripe};
+ghost use Rattle.field_split.specs.Cutting.{IsNearFieldLine, rows, in_stripe};
 ghost use Rattle.field_split.specs.Fields.{IsFieldSize};
 ghost use Rattle.field_split.specs.Pieces.{shape_of};
 
@@ -15,8 +15,8 @@ pub(crate) struct Stripe {
     pub(crate) size: i64,
     pub(crate) number: i64,
     ghost sized: { IsFieldSize size },
-    ghost low: { IsNear (number *ℤ size) },
-    ghost high: { IsNear ((number +ℤ pos 1) *ℤ size) },
+    ghost low: { IsNearFieldLine (number *ℤ size) },
+    ghost high: { IsNearFieldLine ((number +ℤ pos 1) *ℤ size) },
 }
 
 impl Stripe {

@@ -12,7 +12,7 @@ use Rattle.deck_plan.specs.Plans.{Planned}
 use Rattle.shot_reader.specs.declared.reading.ShotFile.{ShotFile}
 use Rattle.shot_writer.specs.declared.parts.Sums.{Sums}
 use Rattle.file_check.specs.Certificates.{IsCertified}
-use Rattle.file_check.specs.Files.{Holds, HasHeadOf, IsTextOf, AreSumsOf, IsExactText, IsExactFile, IsFaultOf}
+use Rattle.file_check.specs.Files.{HoldsShotBytes, HasHeadOf, IsTextOf, AreSumsOf, IsExactText, IsExactFile, IsCheckFaultOf}
 use Rattle.file_check.specs.Files.{IsFileFault, OfOutput, AreExactFiles, IsFirstFileFault}
 use Rattle.file_check.specs.Judgements.{data_of, IsShotsFault, IsBytesFault}
 use Rattle.file_check.specs.declared.faults.CheckFault.{CheckFault}
@@ -47,7 +47,7 @@ output_weaker None P Q f h = h
 
 -- ---- a depot of which only what is left has changed holds the same
 
-holds_before : (before now : Content) (name bytes : List ℕ) → ChangesLeftOnly before now → Holds now name bytes → Holds before name bytes
+holds_before : (before now : Content) (name bytes : List ℕ) → ChangesLeftOnly before now → HoldsShotBytes now name bytes → HoldsShotBytes before name bytes
 holds_before before now name bytes e h = let held = h.held in record { held = rw e at held; short = h.short }
 
 longer_before : (before now : Content) (name : List ℕ) → ChangesLeftOnly before now → IsLongerThan 268435456 now name → IsLongerThan 268435456 before name
@@ -63,7 +63,7 @@ exact_before p k before now sums e h =
     (λ output file. (file.0, holds_before before now output.file file.0 e file.1, file.2)) h
 
 cause_before : (p : Planned) (k : ℕ) (output : Output) (before now : Content) (fault : CheckFault)
-    → ChangesLeftOnly before now → IsFaultOf p k output now fault → IsFaultOf p k output before fault
+    → ChangesLeftOnly before now → IsCheckFaultOf p k output now fault → IsCheckFaultOf p k output before fault
 cause_before p k output before now faults.Long e h = longer_before before now output.file e h
 cause_before p k output before now (faults.Bad bad) e h = (h.0, holds_before before now output.file h.0 e h.1, h.2)
 cause_before p k output before now faults.Head e h = (h.0, holds_before before now output.file h.0 e h.1, h.2)

@@ -13,11 +13,11 @@ use Rattle.plane_sweep.specs.Lowest.{ComesNoLater}
 use Rattle.shot_checker.specs.Verdicts.{Fits, IsFirstTooLarge}
 use Rattle.shot_checker.specs.declared.verdicts.Verdict.{Verdict}
 use Rattle.shot_checker.specs.declared.verdicts.Verdict.TheVariants.{Exact, Miscovered, TooLarge}
-use Rattle.deck_plan.specs.Plans.{Planned}
-use Rattle.file_check.specs.Certificates.{area_of, IsWanted, IsFirstFault, IsCertified, IsMiscover}
+use Rattle.deck_plan.specs.Plans.{Planned, planned_area}
+use Rattle.file_check.specs.Certificates.{IsWantedCount, IsFirstWrongTile, IsCertified, IsMiscover}
 use Rattle.file_check.proofs.FaultLemmas.{two_wanted}
 
-one_wanted : (area : Tile → Type 0) (t : Tile) (m n : ℕ) → IsWanted area t m → IsWanted area t n → m ≡ n
+one_wanted : (area : Tile → Type 0) (t : Tile) (m n : ℕ) → IsWantedCount area t m → IsWantedCount area t n → m ≡ n
 one_wanted area t m n a b =
     by_lt_z (pos m) (pos n)
     (λ lt. absurd (two_wanted area t m n a b (λ e. omega (arith, ints, lt, e))))
@@ -37,14 +37,14 @@ one_tile t u a b =
     ]
 
 pub one_fault : (area : Tile → Type 0) (shots : List Trapezoid) (t u : Tile) (m n x y : ℕ)
-    → IsFirstFault area shots t m n → IsFirstFault area shots u x y → Miscovered t m n ≡ Miscovered u x y
+    → IsFirstWrongTile area shots t m n → IsFirstWrongTile area shots u x y → Miscovered t m n ≡ Miscovered u x y
 one_fault area shots t u m n x y a b =
     let e : t ≡ u = one_tile t u (a.first u b.miscovered) (b.first t a.miscovered) in
     let count : m ≡ x = a.count_is ∙ ap (count_in shots) e ∙ sym b.count_is in
-    let wanted : n ≡ y = one_wanted area u n y (subst (λ s. IsWanted area s n) e a.wanted_is) b.wanted_is in
+    let wanted : n ≡ y = one_wanted area u n y (subst (λ s. IsWantedCount area s n) e a.wanted_is) b.wanted_is in
     rw (e, count, wanted) refl
 
-pub not_covered : (area : Tile → Type 0) (shots : List Trapezoid) (t : Tile) (m n : ℕ) → IsFirstFault area shots t m n → CoversExactly shots area → ⊥
+pub not_covered : (area : Tile → Type 0) (shots : List Trapezoid) (t : Tile) (m n : ℕ) → IsFirstWrongTile area shots t m n → CoversExactly shots area → ⊥
 not_covered area shots t m n a covers = a.miscovered (record { once = covers.once t; never = covers.never t })
 
 pub not_all_fit : (limits : Limits) (shots : List Trapezoid) (k : ℕ) → IsFirstTooLarge shots limits k → All (Fits limits) shots → ⊥
@@ -61,10 +61,10 @@ module _ (p : Planned) (k : ℕ) (shots : List Trapezoid) where
 
   module _ (t : Tile) (count wanted : ℕ) (h : IsMiscover p k shots t count wanted) where
     pub not_exact : (Miscovered t count wanted ≡ Exact) ↔ IsCertified p k shots
-    not_exact = (λ e. subst Says e h, λ is. absurd (not_covered (area_of p k) shots t count wanted h.fault is.covers))
+    not_exact = (λ e. subst Says e h, λ is. absurd (not_covered (planned_area p k) shots t count wanted h.fault is.covers))
 
     pub just_this : (u : Tile) (m n : ℕ) → (Miscovered t count wanted ≡ Miscovered u m n) ↔ IsMiscover p k shots u m n
-    just_this u m n = (λ e. subst Says e h, λ is. one_fault (area_of p k) shots t u count wanted m n h.fault is.fault)
+    just_this u m n = (λ e. subst Says e h, λ is. one_fault (planned_area p k) shots t u count wanted m n h.fault is.fault)
 
     pub none_too_large : (i : ℕ) → (Miscovered t count wanted ≡ TooLarge i) ↔ IsFirstTooLarge shots p.deck.limits i
     none_too_large i = (λ e. subst Says e h, λ is. absurd (not_all_fit p.deck.limits shots i is h.fit))

@@ -9,8 +9,8 @@ use Rattle.depot.specs.Content.{Content, IsNotThere, IsLongerThan}
 use Rattle.depot.proofs.ForCallers.{longer_there}
 use Rattle.layout_model.specs.declared.pair.Pair.{Pair}
 use Rattle.deck_text.specs.declared.deck.Output.{Output}
-use Rattle.deck_plan.specs.Plans.{Planned}
-use Rattle.shot_reader.specs.Refusals.{IsFirstFault}
+use Rattle.deck_plan.specs.Plans.{Planned, planned_area}
+use Rattle.shot_reader.specs.Refusals.{IsFirstShotFault}
 use Rattle.shot_reader.specs.declared.refusing.ShotBad.{ShotBad}
 use Rattle.shot_reader.proofs.ForCallers.{file_right, one_fault}
 use Rattle.shot_reader.proofs.ForCallers.{one_file}
@@ -18,23 +18,23 @@ use Rattle.shot_writer.specs.declared.parts.Sums.{Sums}
 use Rattle.shot_checker.specs.Verdicts.{IsFirstTooLarge}
 use Rattle.shot_checker.specs.declared.verdicts.Verdict.{Verdict}
 use Rattle.shot_checker.specs.declared.verdicts.Verdict.TheVariants.{Exact, Miscovered, TooLarge}
-use Rattle.file_check.specs.Certificates.{area_of, IsCertified, IsMiscover}
+use Rattle.file_check.specs.Certificates.{IsCertified, IsMiscover}
 use Rattle.file_check.proofs.Certifying.{one_fault as one_miscover, not_covered, not_all_fit}
-use Rattle.file_check.specs.Files.{ShotData, IsTextOf, HasHeadOf, HasOtherHead, HasShots, Holds, IsExactFile}
-use Rattle.file_check.specs.Files.{IsFaultOf, OfOutput, AreExactFiles, IsFileFault, IsFirstFileFault}
+use Rattle.file_check.specs.Files.{ShotData, IsTextOf, HasHeadOf, HasOtherHead, HasShots, HoldsShotBytes, IsExactFile}
+use Rattle.file_check.specs.Files.{IsCheckFaultOf, OfOutput, AreExactFiles, IsFileFault, IsFirstFileFault}
 use Rattle.file_check.specs.declared.faults.CheckFault.{CheckFault}
 use Rattle.file_check.specs.declared.faults.CheckFault.TheVariants as faults
 use Rattle.file_check.specs.declared.faults.CheckBad.TheVariants as answers
 
 -- ---- what a name holds
 
-one_content : (c : Content) (name a b : List ℕ) → Holds c name a → Holds c name b → a ≡ b
+one_content : (c : Content) (name a b : List ℕ) → HoldsShotBytes c name a → HoldsShotBytes c name b → a ≡ b
 one_content c name a b h g = same_Some a b (sym h.held ∙ g.held)
 
-there : (c : Content) (name bytes : List ℕ) → Holds c name bytes → IsNotThere c name → ⊥
+there : (c : Content) (name bytes : List ℕ) → HoldsShotBytes c name bytes → IsNotThere c name → ⊥
 there c name bytes h missing = none-some bytes (sym missing ∙ h.held)
 
-fits : (c : Content) (name bytes : List ℕ) → Holds c name bytes → IsLongerThan 268435456 c name → ⊥
+fits : (c : Content) (name bytes : List ℕ) → HoldsShotBytes c name bytes → IsLongerThan 268435456 c name → ⊥
 fits c name bytes h long =
     let above : 268435456 < length bytes = subst (λ (held : Option (List ℕ)). IsSomeAnd held (λ bs. 268435456 < length bs)) h.held long in
     let below = h.short in
@@ -67,9 +67,9 @@ pub record IsJudged (p : Planned) (k : ℕ) (output : Output) (bytes : List ℕ)
 abbrev pub IsClass : Planned → ℕ → Output → Content → Class → Type 0
 IsClass p k output c Missing = IsNotThere c output.file
 IsClass p k output c TooLong = IsLongerThan 268435456 c output.file
-IsClass p k output c (Faulty bad) = (bytes : List ℕ) × Holds c output.file bytes × IsFirstFault bytes bad
-IsClass p k output c OtherHead = (bytes : List ℕ) × Holds c output.file bytes × HasOtherHead p output bytes
-IsClass p k output c (Judged verdict) = (bytes : List ℕ) × Holds c output.file bytes × IsJudged p k output bytes verdict
+IsClass p k output c (Faulty bad) = (bytes : List ℕ) × HoldsShotBytes c output.file bytes × IsFirstShotFault bytes bad
+IsClass p k output c OtherHead = (bytes : List ℕ) × HoldsShotBytes c output.file bytes × HasOtherHead p output bytes
+IsClass p k output c (Judged verdict) = (bytes : List ℕ) × HoldsShotBytes c output.file bytes × IsJudged p k output bytes verdict
 
 -- ---- shots have one verdict
 
@@ -84,10 +84,10 @@ one_too_large shots p i j h g =
 module _ (p : Planned) (k : ℕ) (shots : List Trapezoid) where
   one_verdict : (x y : Verdict) → IsVerdictOn p k shots x → IsVerdictOn p k shots y → x ≡ y
   one_verdict Exact Exact h g = refl
-  one_verdict Exact (Miscovered t count wanted) h g = absurd (not_covered (area_of p k) shots t count wanted g.fault h.covers)
+  one_verdict Exact (Miscovered t count wanted) h g = absurd (not_covered (planned_area p k) shots t count wanted g.fault h.covers)
   one_verdict Exact (TooLarge i) h g = absurd (not_all_fit p.deck.limits shots i g h.fit)
-  one_verdict (Miscovered t count wanted) Exact h g = absurd (not_covered (area_of p k) shots t count wanted h.fault g.covers)
-  one_verdict (Miscovered t count wanted) (Miscovered u m n) h g = one_miscover (area_of p k) shots t u count wanted m n h.fault g.fault
+  one_verdict (Miscovered t count wanted) Exact h g = absurd (not_covered (planned_area p k) shots t count wanted h.fault g.covers)
+  one_verdict (Miscovered t count wanted) (Miscovered u m n) h g = one_miscover (planned_area p k) shots t u count wanted m n h.fault g.fault
   one_verdict (Miscovered t count wanted) (TooLarge i) h g = absurd (not_all_fit p.deck.limits shots i g h.fit)
   one_verdict (TooLarge i) Exact h g = absurd (not_all_fit p.deck.limits shots i h g.fit)
   one_verdict (TooLarge i) (Miscovered t count wanted) h g = absurd (not_all_fit p.deck.limits shots i h g.fit)
@@ -103,17 +103,17 @@ one_data bytes s t h g =
     ∙ ap (λ (z : List Trapezoid). record { unit = t.unit; pair = t.pair; shots = z }) same.2
 
 module _ (p : Planned) (k : ℕ) (output : Output) (c : Content) where
-  same_bytes : (a b : List ℕ) → Holds c output.file a → Holds c output.file b → a ≡ b
+  same_bytes : (a b : List ℕ) → HoldsShotBytes c output.file a → HoldsShotBytes c output.file b → a ≡ b
   same_bytes a b h g = one_content c output.file a b h g
 
-  fault_fault : (a b : List ℕ) (bad other : ShotBad) → a ≡ b → IsFirstFault a bad → IsFirstFault b other → bad ≡ other
-  fault_fault a b bad other e f g = one_fault b bad other (subst (λ (bs : List ℕ). IsFirstFault bs bad) e f) g
+  fault_fault : (a b : List ℕ) (bad other : ShotBad) → a ≡ b → IsFirstShotFault a bad → IsFirstShotFault b other → bad ≡ other
+  fault_fault a b bad other e f g = one_fault b bad other (subst (λ (bs : List ℕ). IsFirstShotFault bs bad) e f) g
 
-  fault_head : (a b : List ℕ) (bad : ShotBad) → a ≡ b → IsFirstFault a bad → HasOtherHead p output b → ⊥
-  fault_head a b bad e f g = file_right b g.s.unit g.s.pair g.s.shots bad g.text (subst (λ (bs : List ℕ). IsFirstFault bs bad) e f)
+  fault_head : (a b : List ℕ) (bad : ShotBad) → a ≡ b → IsFirstShotFault a bad → HasOtherHead p output b → ⊥
+  fault_head a b bad e f g = file_right b g.s.unit g.s.pair g.s.shots bad g.text (subst (λ (bs : List ℕ). IsFirstShotFault bs bad) e f)
 
-  fault_judged : (a b : List ℕ) (bad : ShotBad) (verdict : Verdict) → a ≡ b → IsFirstFault a bad → IsJudged p k output b verdict → ⊥
-  fault_judged a b bad verdict e f g = file_right b g.s.unit g.s.pair g.s.shots bad g.text (subst (λ (bs : List ℕ). IsFirstFault bs bad) e f)
+  fault_judged : (a b : List ℕ) (bad : ShotBad) (verdict : Verdict) → a ≡ b → IsFirstShotFault a bad → IsJudged p k output b verdict → ⊥
+  fault_judged a b bad verdict e f g = file_right b g.s.unit g.s.pair g.s.shots bad g.text (subst (λ (bs : List ℕ). IsFirstShotFault bs bad) e f)
 
   head_judged : (a b : List ℕ) (verdict : Verdict) → a ≡ b → HasOtherHead p output a → IsJudged p k output b verdict → ⊥
   head_judged a b verdict e f g =
@@ -186,7 +186,7 @@ module _ (p : Planned) (k : ℕ) (output : Output) (c : Content) where
       → HasShots p output bytes (λ shots. IsVerdictOn p k shots verdict) → IsJudged p k output bytes verdict
   judged_as bytes verdict h = record { s = h.s; text = h.text; head = h.head; verdict_is = h.holds_of }
 
-  pub fault_class : (fault : CheckFault) → IsFaultOf p k output c fault → IsClass p k output c (class_of fault) × (class_of fault ≢ Judged Exact)
+  pub fault_class : (fault : CheckFault) → IsCheckFaultOf p k output c fault → IsClass p k output c (class_of fault) × (class_of fault ≢ Judged Exact)
   fault_class faults.Long h = (h, λ e. let no : ⊥ = cc in no)
   fault_class (faults.Bad bad) h = (h, λ e. let no : ⊥ = cc in no)
   fault_class faults.Head h = (h, λ e. let no : ⊥ = cc in no)
@@ -258,7 +258,7 @@ module _ (p : Planned) (c : Content) where
     pub before : AreExactFiles p c place sums
     pub output : Output
     pub at : slice_get p.deck.outputs place ≡ Some output
-    pub fault_is : IsFaultOf p place output c fault
+    pub fault_is : IsCheckFaultOf p place output c fault
 
   pub refused_file : (read_rose : Type 0) (place : ℕ) (fault : CheckFault)
       → IsFirstFileFault p c read_rose (answers.Refused place fault) → RefusedFile place fault

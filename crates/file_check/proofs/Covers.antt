@@ -10,8 +10,8 @@ use Rattle.shot_checker.specs.Verdicts.{IsInRows, CoversAlike}
 use Rattle.shot_checker.specs.Verdicts as checked
 use Rattle.deck_plan.specs.Areas.{IsInBand}
 use Rattle.deck_plan.specs.Needs.{IsAskedBand}
-use Rattle.deck_plan.specs.Plans.{Planned}
-use Rattle.file_check.specs.Certificates.{area_of, AgreesBelow, IsFirstFault}
+use Rattle.deck_plan.specs.Plans.{Planned, planned_area}
+use Rattle.file_check.specs.Certificates.{AgreesBelow, IsFirstWrongTile}
 use Rattle.file_check.specs.Fronts.{BottomsAscend, IsFrontAt}
 use Rattle.file_check.proofs.FaultLemmas.{IsPartOf, no_fault, a_fault, nothing_below, nothing_above, agrees_at_first, covers_all}
 
@@ -57,54 +57,54 @@ fewer_rows (negsuc m) (negsuc n) lt some = absurd (omega (arith, ints, some))
 module _ (p : Planned) (k : ℕ) (shots : List Trapezoid) where
   -- the trapezoids of a band
   pub part_of_band : (window : RowRange) (traps : List Trapezoid)
-      → CoversExactly traps (IsInBand p.cells p.top p.deck k window) → IsPartOf (area_of p k) shots window traps
+      → CoversExactly traps (IsInBand p.cells p.top p.deck k window) → IsPartOf (planned_area p k) shots window traps
   part_of_band window traps covers t at = record {
     once = λ has. covers.once t (record { rows = record { from = at.from; below = at.below }; area = has });
     never = λ none. covers.never t (λ inside. none inside.area);
   }
 
-  module _ (rows : RowRange) (inside : (t : Tile) → area_of p k t → ops.IsInRows rows t) where
-    inside_rows : (t : Tile) → area_of p k t → IsInRows rows t
+  module _ (rows : RowRange) (inside : (t : Tile) → planned_area p k t → ops.IsInRows rows t) where
+    inside_rows : (t : Tile) → planned_area p k t → IsInRows rows t
     inside_rows t has = let at = inside t has in record { from = at.from; below = at.below }
 
     module _ (window : RowRange) (bottom : ℤ) (is : window ≡ row_range (neg_ℤ (pos (2 ^ 44))) bottom)
         (under : bottom ≤ℤ rows.y0) (low : neg_ℤ (pos 2147483648) ≤ℤ rows.y0) (are : All IsShot shots) where
-      first_agrees : AgreesBelow (area_of p k) shots window.y0
-      first_agrees = rw is (agrees_at_first (area_of p k) shots rows inside_rows are low)
+      first_agrees : AgreesBelow (planned_area p k) shots window.y0
+      first_agrees = rw is (agrees_at_first (planned_area p k) shots rows inside_rows are low)
 
-      first_part : IsPartOf (area_of p k) shots window []
-      first_part = nothing_below (area_of p k) shots rows inside_rows window (rw is under)
+      first_part : IsPartOf (planned_area p k) shots window []
+      first_part = nothing_below (planned_area p k) shots rows inside_rows window (rw is under)
 
-      pub first_fault : (t : Tile) (count wanted : ℕ) → checked.IsFirstFault shots [] window t count wanted → IsFirstFault (area_of p k) shots t count wanted
-      first_fault t count wanted h = a_fault (area_of p k) shots window.y0 window [] first_agrees refl first_part t count wanted h
+      pub first_fault : (t : Tile) (count wanted : ℕ) → checked.IsFirstWrongTileInRows shots [] window t count wanted → IsFirstWrongTile (planned_area p k) shots t count wanted
+      first_fault t count wanted h = a_fault (planned_area p k) shots window.y0 window [] first_agrees refl first_part t count wanted h
 
-      pub first_none : CoversAlike shots [] window → AgreesBelow (area_of p k) shots window.y1
-      first_none alike = no_fault (area_of p k) shots window.y0 window [] first_agrees refl first_part alike
+      pub first_none : CoversAlike shots [] window → AgreesBelow (planned_area p k) shots window.y1
+      first_none alike = no_fault (planned_area p k) shots window.y0 window [] first_agrees refl first_part alike
 
     module _ (window : RowRange) (bottom : ℤ) (is : window ≡ row_range bottom (pos (2 ^ 44)))
         (over : rows.y1 ≤ℤ bottom) (high : rows.y1 ≤ℤ pos 2147483648) (are : All IsShot shots)
-        (below : AgreesBelow (area_of p k) shots bottom) where
-      last_agrees : AgreesBelow (area_of p k) shots window.y0
+        (below : AgreesBelow (planned_area p k) shots bottom) where
+      last_agrees : AgreesBelow (planned_area p k) shots window.y0
       last_agrees = rw is below
 
-      last_part : IsPartOf (area_of p k) shots window []
-      last_part = nothing_above (area_of p k) shots rows inside_rows window (rw is over)
+      last_part : IsPartOf (planned_area p k) shots window []
+      last_part = nothing_above (planned_area p k) shots rows inside_rows window (rw is over)
 
-      pub last_fault : (t : Tile) (count wanted : ℕ) → checked.IsFirstFault shots [] window t count wanted → IsFirstFault (area_of p k) shots t count wanted
-      last_fault t count wanted h = a_fault (area_of p k) shots window.y0 window [] last_agrees refl last_part t count wanted h
+      pub last_fault : (t : Tile) (count wanted : ℕ) → checked.IsFirstWrongTileInRows shots [] window t count wanted → IsFirstWrongTile (planned_area p k) shots t count wanted
+      last_fault t count wanted h = a_fault (planned_area p k) shots window.y0 window [] last_agrees refl last_part t count wanted h
 
-      pub last_none : CoversAlike shots [] window → CoversExactly shots (area_of p k)
+      pub last_none : CoversAlike shots [] window → CoversExactly shots (planned_area p k)
       last_none alike =
-          let all : AgreesBelow (area_of p k) shots window.y1 = no_fault (area_of p k) shots window.y0 window [] last_agrees refl last_part alike in
-          covers_all (area_of p k) shots rows inside_rows are high (rw is at all)
+          let all : AgreesBelow (planned_area p k) shots window.y1 = no_fault (planned_area p k) shots window.y0 window [] last_agrees refl last_part alike in
+          covers_all (planned_area p k) shots rows inside_rows are high (rw is at all)
 
-  pub band_fault : (window : RowRange) (traps : List Trapezoid) → AgreesBelow (area_of p k) shots window.y0
+  pub band_fault : (window : RowRange) (traps : List Trapezoid) → AgreesBelow (planned_area p k) shots window.y0
       → CoversExactly traps (IsInBand p.cells p.top p.deck k window)
-      → (t : Tile) (count wanted : ℕ) → checked.IsFirstFault shots traps window t count wanted → IsFirstFault (area_of p k) shots t count wanted
-  band_fault window traps below covers t count wanted h = a_fault (area_of p k) shots window.y0 window traps below refl
+      → (t : Tile) (count wanted : ℕ) → checked.IsFirstWrongTileInRows shots traps window t count wanted → IsFirstWrongTile (planned_area p k) shots t count wanted
+  band_fault window traps below covers t count wanted h = a_fault (planned_area p k) shots window.y0 window traps below refl
       (part_of_band window traps covers) t count wanted h
 
-  pub band_none : (window : RowRange) (traps : List Trapezoid) → AgreesBelow (area_of p k) shots window.y0
+  pub band_none : (window : RowRange) (traps : List Trapezoid) → AgreesBelow (planned_area p k) shots window.y0
       → CoversExactly traps (IsInBand p.cells p.top p.deck k window)
-      → CoversAlike shots traps window → AgreesBelow (area_of p k) shots window.y1
-  band_none window traps below covers alike = no_fault (area_of p k) shots window.y0 window traps below refl (part_of_band window traps covers) alike
+      → CoversAlike shots traps window → AgreesBelow (planned_area p k) shots window.y1
+  band_none window traps below covers alike = no_fault (planned_area p k) shots window.y0 window traps below refl (part_of_band window traps covers) alike

@@ -10,11 +10,11 @@ use Rattle.half_grid.specs.declared.plane.Tile.{Tile}
 use Rattle.shot_checker.specs.Verdicts.{IsInRows, CoversAlike}
 use Rattle.shot_checker.specs.Verdicts as checked
 use Rattle.file_check.proofs.Passing.{none_before, none_beyond}
-use Rattle.file_check.specs.Certificates.{IsWanted, AgreesBelow, IsFirstFault}
+use Rattle.file_check.specs.Certificates.{IsWantedCount, AgreesBelow, IsFirstWrongTile}
 
 -- a fault of those that meet the window is one of all shots
 pub fault_of_all : (shots now area : List Trapezoid) (window : RowRange) → ((t : Tile) → IsInRows window t → count_in now t ≡ count_in shots t)
-    → (t : Tile) (count wanted : ℕ) → checked.IsFirstFault now area window t count wanted → checked.IsFirstFault shots area window t count wanted
+    → (t : Tile) (count wanted : ℕ) → checked.IsFirstWrongTileInRows now area window t count wanted → checked.IsFirstWrongTileInRows shots area window t count wanted
 fault_of_all shots now area window same t count wanted h =
     let rows = h.tile.miscovered.rows in
     record {
@@ -32,7 +32,7 @@ alike_for_all shots now area window same h t rows = sym (same t rows) ∙ h t ro
 
 -- ---- below a Y all tiles are in as many shots as they should be
 
-pub two_wanted : (area : Tile → Type 0) (t : Tile) (m n : ℕ) → IsWanted area t m → IsWanted area t n → m ≢ n → ⊥
+pub two_wanted : (area : Tile → Type 0) (t : Tile) (m n : ℕ) → IsWantedCount area t m → IsWantedCount area t n → m ≢ n → ⊥
 two_wanted area t m n a b differ =
     let none : area t → ⊥ = λ at. differ (a.once at ∙ sym (b.once at)) in
     differ (a.never none ∙ sym (b.never none))
@@ -40,7 +40,7 @@ two_wanted area t m n a b differ =
 module _ (area : Tile → Type 0) (shots : List Trapezoid) where
   -- each tile of the window is in as many of the trapezoids as it should be
   abbrev pub IsPartOf : RowRange → List Trapezoid → Type 0
-  IsPartOf window traps = (t : Tile) → IsInRows window t → IsWanted area t (count_in traps t)
+  IsPartOf window traps = (t : Tile) → IsInRows window t → IsWantedCount area t (count_in traps t)
 
   pub no_fault : (y : ℤ) (window : RowRange) (traps : List Trapezoid) → AgreesBelow area shots y → window.y0 ≡ y
       → IsPartOf window traps → CoversAlike shots traps window → AgreesBelow area shots window.y1
@@ -50,7 +50,7 @@ module _ (area : Tile → Type 0) (shots : List Trapezoid) where
       (λ over. (let rows : IsInRows window t = record { from = over; below = lt } in rw (alike t rows) (part t rows)))
 
   pub a_fault : (y : ℤ) (window : RowRange) (traps : List Trapezoid) → AgreesBelow area shots y → window.y0 ≡ y → IsPartOf window traps
-      → (t : Tile) (count wanted : ℕ) → checked.IsFirstFault shots traps window t count wanted → IsFirstFault area shots t count wanted
+      → (t : Tile) (count wanted : ℕ) → checked.IsFirstWrongTileInRows shots traps window t count wanted → IsFirstWrongTile area shots t count wanted
   a_fault y window traps below at part t count wanted h =
       let rows = h.tile.miscovered.rows in
       let top = rows.below in
@@ -94,7 +94,7 @@ module _ (area : Tile → Type 0) (shots : List Trapezoid) where
 
     pub covers_all : All IsShot shots → rows.y1 ≤ℤ pos 2147483648 → AgreesBelow area shots (pos (2 ^ 44)) → CoversExactly shots area
     covers_all h high below =
-        let wanted : (t : Tile) → IsWanted area t (count_in shots t) = λ t.
+        let wanted : (t : Tile) → IsWantedCount area t (count_in shots t) = λ t.
         by_lt_z t.j (pos (2 ^ 44)) (below t)
         (λ ge. record {
           once = λ has. (let under = (inside t has).below in absurd (omega (arith, ints, under, high, ge)));

@@ -10,37 +10,33 @@ use Rattle.half_grid.specs.declared.plane.Tile.{Tile}
 use Rattle.plane_sweep.specs.Lowest.{ComesNoLater}
 use Rattle.shot_checker.specs.Verdicts.{Fits}
 use Rattle.deck_plan.specs.Areas.{IsInOutput}
-use Rattle.deck_plan.specs.Plans.{Planned}
-
--- the area of output k
-abbrev pub area_of : Planned → ℕ → Tile → Type 0
-area_of p k t = IsInOutput p.cells p.top p.deck k t
+use Rattle.deck_plan.specs.Plans.{Planned, planned_area}
 
 -- the tile should be in so many shots
-pub record IsWanted (area : Tile → Type 0) (t : Tile) (n : ℕ) : Type 0 where
+pub record IsWantedCount (area : Tile → Type 0) (t : Tile) (n : ℕ) : Type 0 where
   pub once : area t → n ≡ 1
   pub never : (area t → ⊥) → n ≡ 0
 
 abbrev pub IsMiscovered : (Tile → Type 0) → List Trapezoid → Tile → Type 0
-IsMiscovered area shots t = IsWanted area t (count_in shots t) → ⊥
+IsMiscovered area shots t = IsWantedCount area t (count_in shots t) → ⊥
 
 -- each tile below the Y is in as many shots as it should be
 abbrev pub AgreesBelow : (Tile → Type 0) → List Trapezoid → ℤ → Type 0
-AgreesBelow area shots y = (t : Tile) → t.j <ℤ y → IsWanted area t (count_in shots t)
+AgreesBelow area shots y = (t : Tile) → t.j <ℤ y → IsWantedCount area t (count_in shots t)
 
 -- the lowest miscovered tile, leftmost in its row, in how many shots it is, and in how many it should be
-pub record IsFirstFault (area : Tile → Type 0) (shots : List Trapezoid) (t : Tile) (count wanted : ℕ) : Type 0 where
+pub record IsFirstWrongTile (area : Tile → Type 0) (shots : List Trapezoid) (t : Tile) (count wanted : ℕ) : Type 0 where
   pub miscovered : IsMiscovered area shots t
   pub first : (u : Tile) → IsMiscovered area shots u → ComesNoLater t u
   pub count_is : count ≡ count_in shots t
-  pub wanted_is : IsWanted area t wanted
+  pub wanted_is : IsWantedCount area t wanted
 
 -- the shots are certified for output k
 pub record IsCertified (p : Planned) (k : ℕ) (shots : List Trapezoid) : Type 0 where
   pub fit : All (Fits p.deck.limits) shots
-  pub covers : CoversExactly shots (area_of p k)
+  pub covers : CoversExactly shots (planned_area p k)
 
 -- all shots fit, and this is the first fault of what they cover
 pub record IsMiscover (p : Planned) (k : ℕ) (shots : List Trapezoid) (t : Tile) (count wanted : ℕ) : Type 0 where
   pub fit : All (Fits p.deck.limits) shots
-  pub fault : IsFirstFault (area_of p k) shots t count wanted
+  pub fault : IsFirstWrongTile (planned_area p k) shots t count wanted

@@ -14,7 +14,7 @@ use Rattle.deck_text.specs.declared.deck.Output.{Output}
 use Rattle.deck_text.specs.declared.deck.Deck.{Deck}
 use Rattle.deck_plan.specs.Plans.{Planned}
 use Rattle.shot_reader.specs.Reading.{IsFileOf}
-use Rattle.shot_reader.specs.Refusals.{IsFirstFault}
+use Rattle.shot_reader.specs.Refusals.{IsFirstShotFault}
 use Rattle.shot_writer.specs.Writing.{triangles_of}
 use Rattle.shot_writer.specs.declared.parts.Sums.{Sums}
 use Rattle.shot_checker.specs.Verdicts.{IsFirstTooLarge}
@@ -69,22 +69,22 @@ pub record HasShots (p : Planned) (output : Output) (bytes : List ℕ) (holds : 
 
 -- ---- the file of output k
 
-pub record Holds (c : Content) (name : List ℕ) (bytes : List ℕ) : Type 0 where
+pub record HoldsShotBytes (c : Content) (name : List ℕ) (bytes : List ℕ) : Type 0 where
   pub held : held_as c name ≡ Some bytes
   pub short : length bytes ≤ 268435456
 
 abbrev pub IsExactFile : Planned → ℕ → Output → Content → Sums → Type 0
-IsExactFile p k output c sums = (bytes : List ℕ) × Holds c output.file bytes × IsExactText p k output bytes sums
+IsExactFile p k output c sums = (bytes : List ℕ) × HoldsShotBytes c output.file bytes × IsExactText p k output bytes sums
 
 -- why the file is refused
-abbrev pub IsFaultOf : Planned → ℕ → Output → Content → CheckFault → Type 0
-IsFaultOf p k output c faults.Long = IsLongerThan 268435456 c output.file
-IsFaultOf p k output c (faults.Bad bad) = (bytes : List ℕ) × Holds c output.file bytes × IsFirstFault bytes bad
-IsFaultOf p k output c faults.Head = (bytes : List ℕ) × Holds c output.file bytes × HasOtherHead p output bytes
-IsFaultOf p k output c (faults.Miscovered t count wanted) =
-    (bytes : List ℕ) × Holds c output.file bytes × HasShots p output bytes (λ shots. IsMiscover p k shots t count wanted)
-IsFaultOf p k output c (faults.TooLarge i) =
-    (bytes : List ℕ) × Holds c output.file bytes × HasShots p output bytes (λ shots. IsFirstTooLarge shots p.deck.limits i)
+abbrev pub IsCheckFaultOf : Planned → ℕ → Output → Content → CheckFault → Type 0
+IsCheckFaultOf p k output c faults.Long = IsLongerThan 268435456 c output.file
+IsCheckFaultOf p k output c (faults.Bad bad) = (bytes : List ℕ) × HoldsShotBytes c output.file bytes × IsFirstShotFault bytes bad
+IsCheckFaultOf p k output c faults.Head = (bytes : List ℕ) × HoldsShotBytes c output.file bytes × HasOtherHead p output bytes
+IsCheckFaultOf p k output c (faults.Miscovered t count wanted) =
+    (bytes : List ℕ) × HoldsShotBytes c output.file bytes × HasShots p output bytes (λ shots. IsMiscover p k shots t count wanted)
+IsCheckFaultOf p k output c (faults.TooLarge i) =
+    (bytes : List ℕ) × HoldsShotBytes c output.file bytes × HasShots p output bytes (λ shots. IsFirstTooLarge shots p.deck.limits i)
 
 -- ---- all files
 
@@ -99,7 +99,7 @@ pub record AreExactFiles (p : Planned) (c : Content) (n : ℕ) (sums : List Sums
 
 -- the answer to a file that isn't exact, where this says whether a read fault was counted
 abbrev pub IsFileFault : Planned → ℕ → Output → Content → Type 0 → CheckBad → Type 0
-IsFileFault p k output c read_rose (answers.Refused place fault) = (place ≡ k) × IsFaultOf p k output c fault
+IsFileFault p k output c read_rose (answers.Refused place fault) = (place ≡ k) × IsCheckFaultOf p k output c fault
 IsFileFault p k output c read_rose answers.ReadFault = read_rose ⊎ IsNotThere c output.file
 
 -- the files before some place are exact, and this is the answer to the file there

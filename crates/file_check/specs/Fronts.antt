@@ -5,8 +5,8 @@ use Rattle.std.specs.Prelude.{ℕ, ℤ, ◌+◌, ◌≡◌, ◌≤ℤ◌, Bool, 
 use Rattle.half_grid.specs.Trapezoids.{Trapezoid, count_in}
 use Rattle.half_grid.specs.Windows.{RowRange}
 use Rattle.half_grid.specs.declared.plane.Tile.{Tile}
-use Rattle.deck_plan.specs.Plans.{Planned}
-use Rattle.file_check.specs.Certificates.{area_of, AgreesBelow}
+use Rattle.deck_plan.specs.Plans.{Planned, planned_area}
+use Rattle.file_check.specs.Certificates.{AgreesBelow}
 use Rattle.file_check.specs.declared.front.Front.{Front}
 
 -- no trapezoid begins below those before it
@@ -26,7 +26,7 @@ pub record IsFrontAt (shots : List Trapezoid) (y : ℤ) (meeting later : List Tr
 -- The shots have no fault below the Y, for output k of a plan, and are gone through up to it.
 pub record IsJudgedTo (p : Planned) (k : ℕ) (shots : List Trapezoid) (y : ℤ) (front : Front) : Type 0 where
   pub passed : IsFrontAt shots y front.meeting.items front.later.now
-  pub agrees : AgreesBelow (area_of p k) shots y
+  pub agrees : AgreesBelow (planned_area p k) shots y
 
 -- these begin below the window's top, and the others at it or above
 pub record IsTaken (window : RowRange) (later front rest : List Trapezoid) : Type 0 where

@@ -3,7 +3,7 @@ use Rattle.std.specs.Prelude.{ℕ, ◌≡◌, List}
 use Rattle.half_grid.specs.Trapezoids.{Trapezoid}
 use Rattle.deck_text.specs.declared.deck.Output.{Output}
 use Rattle.deck_plan.specs.Plans.{Planned}
-use Rattle.shot_reader.specs.Refusals.{IsFirstFault}
+use Rattle.shot_reader.specs.Refusals.{IsFirstShotFault}
 use Rattle.shot_reader.specs.declared.reading.ShotFile.{ShotFile}
 use Rattle.shot_checker.specs.Verdicts.{IsFirstTooLarge}
 use Rattle.file_check.specs.Certificates.{IsMiscover}
@@ -25,7 +25,7 @@ IsShotsFault p k shots answers.ReadFault = ⊥
 
 abbrev pub IsBytesFault : Planned → ℕ → Output → List ℕ → CheckBad → Type 0
 IsBytesFault p k output bytes (answers.Refused place faults.Long) = ⊥
-IsBytesFault p k output bytes (answers.Refused place (faults.Bad bad)) = (place ≡ k) × IsFirstFault bytes bad
+IsBytesFault p k output bytes (answers.Refused place (faults.Bad bad)) = (place ≡ k) × IsFirstShotFault bytes bad
 IsBytesFault p k output bytes (answers.Refused place faults.Head) = (place ≡ k) × HasOtherHead p output bytes
 IsBytesFault p k output bytes (answers.Refused place (faults.Miscovered t count wanted)) =
     (place ≡ k) × HasShots p output bytes (λ shots. IsMiscover p k shots t count wanted)

@@ -1,6 +1,6 @@
 -- ---- what is promised, in reading order
-pub mod Certificates
 pub mod Files
+pub mod Certificates
 -- ---- what is kept inside
 pub mod Fronts
 pub mod Judgements

@@ -4,8 +4,9 @@ ghost use Rattle.half_grid.specs.Trapezoids.{Trapezoid};
 ghost use Rattle.half_grid.specs.Windows.{row_range};
 ghost use Rattle.deck_plan.specs.Needs.{IsAskedBand};
 ghost use Rattle.band_areas.specs.Parts.{AreAreasOf};
-ghost use Rattle.file_check.specs.Certificates.{area_of, IsFirstFault};
+ghost use Rattle.file_check.specs.Certificates.{IsFirstWrongTile};
 ghost use Rattle.file_check.specs.Fronts.{IsJudgedTo};
+ghost use Rattle.deck_plan.specs.Plans.{planned_area};
 
 use crate::front::{Front, fault_in};
 use band_areas::BandAreas;
@@ -44,7 +45,7 @@ pub(crate) fn fault_of_band(
     ensures areas { AreAreasOf plan.now output areas.new }
     ensures fault { (shots : List Trapezoid) → IsJudgedTo plan.now output shots band.y0 front.old
         → IfOk result (λ answer. IfSome answer (λ fault.
-        IsFirstFault (area_of plan.now output) shots fault.tile fault.count fault.wanted)) }
+        IsFirstWrongTile (planned_area plan.now output) shots fault.tile fault.count fault.wanted)) }
     ensures none { (shots : List Trapezoid) → IsJudgedTo plan.now output shots band.y0 front.old
         → IfOk result (λ answer. IfNone answer (IsJudgedTo plan.now output shots band.y1 front.new)) }
 {

@@ -4,7 +4,8 @@ ghost use Rattle.half_grid.specs.Trapezoids.{IsShot, CoversExactly};
 ghost use Rattle.half_grid.specs.declared.plane.Tile.{Tile};
 ghost use Rattle.shot_checker.specs.Verdicts.{Fits, IsFirstTooLarge};
 ghost use Rattle.shot_checker.specs.declared.verdicts.Verdict.TheVariants.{Exact, Miscovered, TooLarge};
-ghost use Rattle.file_check.specs.Certificates.{area_of, IsFirstFault, IsCertified, IsMiscover};
+ghost use Rattle.file_check.specs.Certificates.{IsFirstWrongTile, IsCertified, IsMiscover};
+ghost use Rattle.deck_plan.specs.Plans.{planned_area};
 
 use crate::bands::fault_of_band;
 use crate::front::{Front, ascending, fault_in};
@@ -34,8 +35,8 @@ fn fault_of_output(
 ) -> Result<Option<Fault>, NoMemory>
     requires output { output < length plan.now.deck.outputs }
     requires shots { All IsShot shots.now }
-    ensures fault { IfOk result (λ answer. IfSome answer (λ fault. IsFirstFault (area_of plan.now output) shots.now fault.tile fault.count fault.wanted)) }
-    ensures none { IfOk result (λ answer. IfNone answer (CoversExactly shots.now (area_of plan.now output))) }
+    ensures fault { IfOk result (λ answer. IfSome answer (λ fault. IsFirstWrongTile (planned_area plan.now output) shots.now fault.tile fault.count fault.wanted)) }
+    ensures none { IfOk result (λ answer. IfNone answer (CoversExactly shots.now (planned_area plan.now output))) }
 {
     let sorted = ascending(alloc, shots)?;
     let mut front = Front {

@@ -3,7 +3,7 @@ ghost use Rattle.std.specs.Prelude.{◌≡◌, ◌≤ℤ◌, ◌++◌, List, [],
 ghost use Rattle.std.specs.List.{filter};
 ghost use Rattle.half_grid.specs.Trapezoids.{Trapezoid, count_in};
 ghost use Rattle.half_grid.specs.declared.plane.Tile.{Tile};
-ghost use Rattle.shot_checker.specs.Verdicts.{IsInRows, IsFirstFault, CoversAlike};
+ghost use Rattle.shot_checker.specs.Verdicts.{IsInRows, IsFirstWrongTileInRows, CoversAlike};
 ghost use Rattle.file_check.specs.Fronts.{BottomsAscend, ends_above, IsFrontAt, IsTaken};
 
 use geo_stream::NoMemory;
@@ -102,7 +102,7 @@ pub(crate) fn fault_in(
 ) -> Result<Option<Fault>, NoMemory>
     requires { BottomsAscend front.old.later.now }
     ensures front { (shots : List Trapezoid) → IsFrontAt shots window.y0 front.old.meeting.items front.old.later.now → OnOk result (IsFrontAt shots window.y1 front.new.meeting.items front.new.later.now) }
-    ensures fault { (shots : List Trapezoid) → IsFrontAt shots window.y0 front.old.meeting.items front.old.later.now → IfOk result (λ answer. IfSome answer (λ fault. IsFirstFault shots area.now window fault.tile fault.count fault.wanted)) }
+    ensures fault { (shots : List Trapezoid) → IsFrontAt shots window.y0 front.old.meeting.items front.old.later.now → IfOk result (λ answer. IfSome answer (λ fault. IsFirstWrongTileInRows shots area.now window fault.tile fault.count fault.wanted)) }
     ensures none { (shots : List Trapezoid) → IsFrontAt shots window.y0 front.old.meeting.items front.old.later.now → IfOk result (λ answer. IfNone answer (CoversAlike shots area.now window)) }
 {
     go_on(front, window)?;

@@ -1,10 +1,9 @@
--- ---- what is promised, in reading order
+-- ---- what is kept inside
 pub mod Kept
 pub mod Quads
 pub mod Tables
 pub mod Walks
 pub mod Boxes
--- ---- what is kept inside
 pub mod Blocks
 pub mod ShortBoxes
 pub mod BoxLaws

@@ -4,7 +4,7 @@ ghost use Rattle.half_grid.specs.Outlines.{IsClosed};
 ghost use Rattle.half_grid.specs.Reach.{IsPointWithinReach};
 ghost use Rattle.layout_model.specs.Layouts.{IsWithin, IsShapeOnGrid, IsPlacementOnGrid, IsLayoutOnGrid};
 ghost use Rattle.layout_model.specs.Names.{IsName};
-ghost use Rattle.layout_model.specs.PathBounds.{IsNear, IsNearBrush};
+ghost use Rattle.layout_model.specs.PathBounds.{IsNearOnPath, IsNearBrush};
 
 use geo_stream::List;
 use half_grid::{Point, Side, Tile, winding_at};
@@ -521,9 +521,9 @@ fn draw(
 ) -> Result<Vec<KeptShape>, PathBad>
     requires points { All (IsWithin (2 ^ 41)) points.now }
     requires half_low { pos 0 ≤ℤ half }
-    requires half { IsNear half }
-    requires begin { IsNear begin }
-    requires end { IsNear end }
+    requires half { IsNearOnPath half }
+    requires begin { IsNearOnPath begin }
+    requires end { IsNearOnPath end }
 {
     let place = Offsets::list(alloc, &[point(2, 4)]).expect(rt, "memory");
     path_shapes(alloc, PAIR, points, half, begin, end, &place, true)

@@ -1,8 +1,8 @@
 -- ---- what is promised, in reading order
-pub mod Limits
-pub mod Cutting
 pub mod Economy
-pub mod Laws
+pub mod Cutting
 -- ---- what is kept inside
+pub mod Limits
+pub mod Laws
 pub mod Cuts
 pub mod StreamLaws

@@ -10,7 +10,7 @@ use Rattle.gds_record.specs.declared.kinds.Kind.TheVariants.{Header, Boundary, P
 use Rattle.gds_record.specs.declared.records.Record.{Record}
 use Rattle.gds_reader.specs.declared.elements.Element.{Element}
 use Rattle.gds_reader.specs.Past.{same_kind, element_kind, own_record}
-use Rattle.gds_reader.specs.Values.{number2_in, signed4_in, pair_of, columns_in, rows_in, name_in, points_in, is_wanted, Keeps, KeepsAs, KeepsXy, IsLowest}
+use Rattle.gds_reader.specs.Values.{number2_in, signed4_in, pair_of, columns_in, rows_in, name_in, points_in, is_wanted, KeepsGdsiiRule, KeepsAs, KeepsXy, IsLowest}
 use Rattle.gds_reader.specs.Meaning.{is_drawn, wanted_at, shapes_as, shapes_at, placements_as, placements_at, orient_of, placed, first_of, origin, array_places}
 use Rattle.gds_reader.specs.Elements.{IsElementOf, shapes_by, KeepsBy, placements_kept, place_kept}
 
@@ -265,7 +265,7 @@ placements_of_xy bytes past r e kind f =
     ∙ sym (ap (λ k. cond (same_kind k Xy) (placements_as (element_kind past) bytes past points) []) kind)
 
 pub keeps_of_xy : (bytes : List ℕ) (wanted : List Pair) (past : List Record) (r : Record) (e : Element) (drawn : Option Bool) (rule : ℕ) → r.kind ≡ Xy
-    → IsElementOf bytes past e → drawn ≡ wanted_at bytes wanted past r → KeepsBy drawn e (points_in bytes r) rule → Keeps bytes wanted past r rule
+    → IsElementOf bytes past e → drawn ≡ wanted_at bytes wanted past r → KeepsBy drawn e (points_in bytes r) rule → KeepsGdsiiRule bytes wanted past r rule
 keeps_of_xy bytes wanted past r e drawn rule kind f d h =
     let points = points_in bytes r in
     let at_element = subst (λ (x : Element). KeepsBy drawn x points rule) (element_is bytes past e f) h in
@@ -276,7 +276,7 @@ keeps_of_xy bytes wanted past r e drawn rule kind f d h =
     (is_wanted bytes wanted past) refl at_drawn)
 
 pub keeps_by_xy : (bytes : List ℕ) (wanted : List Pair) (past : List Record) (r : Record) (e : Element) (drawn : Option Bool) (rule : ℕ) → r.kind ≡ Xy
-    → IsElementOf bytes past e → drawn ≡ wanted_at bytes wanted past r → Keeps bytes wanted past r rule → KeepsBy drawn e (points_in bytes r) rule
+    → IsElementOf bytes past e → drawn ≡ wanted_at bytes wanted past r → KeepsGdsiiRule bytes wanted past r rule → KeepsBy drawn e (points_in bytes r) rule
 keeps_by_xy bytes wanted past r e drawn rule kind f d h =
     let points = points_in bytes r in
     let at_xy = subst (λ k. KeepsAs k bytes wanted past r rule) kind h in
@@ -287,7 +287,7 @@ keeps_by_xy bytes wanted past r e drawn rule kind f d h =
 
 pub lowest_of_xy : (bytes : List ℕ) (wanted : List Pair) (past : List Record) (r : Record) (e : Element) (drawn : Option Bool) (rule : ℕ) → r.kind ≡ Xy
     → IsElementOf bytes past e → drawn ≡ wanted_at bytes wanted past r → IsLowest (KeepsBy drawn e (points_in bytes r)) rule
-    → IsLowest (Keeps bytes wanted past r) rule
+    → IsLowest (KeepsGdsiiRule bytes wanted past r) rule
 lowest_of_xy bytes wanted past r e drawn rule kind f d low = record {
   broken = λ h. low.broken (keeps_by_xy bytes wanted past r e drawn rule kind f d h);
   lower = λ other less. keeps_of_xy bytes wanted past r e drawn other kind f d (low.lower other less);

@@ -13,7 +13,7 @@ use Rattle.gds_record.specs.declared.records.Record.{Record}
 use Rattle.gds_reader.specs.Past.{has_kind, structure_record, count_in}
 use Rattle.gds_reader.specs.Values.{name_in}
 use Rattle.gds_reader.specs.Meaning.{cells_of, cells_named}
-use Rattle.gds_reader.specs.Reading.{IsNamed, IsAllowed, AreAllowed}
+use Rattle.gds_reader.specs.Reading.{IsNamedBefore, IsRecordAllowed, AreRecordsAllowed}
 use Rattle.gds_reader.proofs.KindLemmas.{same_kind_is}
 
 -- ---- counts
@@ -50,7 +50,7 @@ unfoldable HasName : List ℕ → List ℕ → List Record → Type 0
 HasName bytes name [] = ⊥
 HasName bytes name (x ∷ past) = ((x.kind ≡ StrName) × (name_in bytes x ≡ name)) ⊎ HasName bytes name past
 
-has_named : (bytes : List ℕ) (r : Record) (past : List Record) → HasName bytes (name_in bytes r) past → IsNamed bytes past r
+has_named : (bytes : List ℕ) (r : Record) (past : List Record) → HasName bytes (name_in bytes r) past → IsNamedBefore bytes past r
 unfolding HasName
 has_named bytes r [] h = h
 has_named bytes r (x ∷ past) (inl h) = inl h
@@ -132,7 +132,7 @@ with_end bytes wanted past r (Some s) end opened d =
     }
 
 with_name : (bytes : List ℕ) (wanted : List Pair) (past : List Record) (r : Record) → has_kind EndStr r ≡ false → has_kind StrName r ≡ true
-    → ¬ IsNamed bytes past r → IsDistinct bytes wanted past → IsDistinct bytes wanted (r ∷ past)
+    → ¬ IsNamedBefore bytes past r → IsDistinct bytes wanted past → IsDistinct bytes wanted (r ∷ past)
 with_name bytes wanted past r other name new d =
     let names = cells_same bytes wanted past r other in
     let before = cell_names (cells_of bytes wanted past) in
@@ -167,13 +167,13 @@ with_other bytes wanted past r other name d =
     }
 
 with_record : (bytes : List ℕ) (unit : ℕ) (wanted : List Pair) (past : List Record) (r : Record) (k n : Bool) → has_kind EndStr r ≡ k → has_kind StrName r ≡ n
-    → IsAllowed bytes unit wanted past r → IsDistinct bytes wanted past → IsDistinct bytes wanted (r ∷ past)
+    → IsRecordAllowed bytes unit wanted past r → IsDistinct bytes wanted past → IsDistinct bytes wanted (r ∷ past)
 with_record bytes unit wanted past r true n end name allowed d = with_end bytes wanted past r (structure_record StrName past) end refl d
 with_record bytes unit wanted past r false true end name allowed d =
     with_name bytes wanted past r end name (allowed.new_name (same_kind_is r.kind StrName name)) d
 with_record bytes unit wanted past r false false end name allowed d = with_other bytes wanted past r end name d
 
-all_distinct : (bytes : List ℕ) (unit : ℕ) (wanted : List Pair) (past : List Record) → AreAllowed bytes unit wanted past → IsDistinct bytes wanted past
+all_distinct : (bytes : List ℕ) (unit : ℕ) (wanted : List Pair) (past : List Record) → AreRecordsAllowed bytes unit wanted past → IsDistinct bytes wanted past
 all_distinct bytes unit wanted [] allowed = record {
   named = tt;
   open_new = λ s e. absurd (cc);
@@ -183,6 +183,6 @@ all_distinct bytes unit wanted [] allowed = record {
 all_distinct bytes unit wanted (r ∷ past) allowed =
     with_record bytes unit wanted past r (has_kind EndStr r) (has_kind StrName r) refl refl allowed.0 (all_distinct bytes unit wanted past allowed.1)
 
-pub names_distinct : (bytes : List ℕ) (unit : ℕ) (wanted : List Pair) (past : List Record) → AreAllowed bytes unit wanted past
+pub names_distinct : (bytes : List ℕ) (unit : ℕ) (wanted : List Pair) (past : List Record) → AreRecordsAllowed bytes unit wanted past
     → AreDistinct (map (λ (cell : Cell). cell.name) (cells_of bytes wanted past))
 names_distinct bytes unit wanted past allowed = (all_distinct bytes unit wanted past allowed).distinct

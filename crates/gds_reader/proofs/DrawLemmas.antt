@@ -23,7 +23,7 @@ use Rattle.geo_stream.specs.declared.refusal.Refusal.TheVariants.{NoMemory}
 use Rattle.gds_reader.specs.Brushes.{refusal_by}
 use Rattle.gds_reader.specs.Meaning.{origin, path_shapes_of}
 use Rattle.gds_reader.specs.Refused.{IsRefusedBy}
-use Rattle.gds_reader.specs.Values.{KeepsBoundary, KeepsPath, IsLowest}
+use Rattle.gds_reader.specs.Values.{KeepsBoundary, KeepsGdsiiPath, IsLowest}
 use Rattle.gds_reader.proofs.GridLemmas.{origin_offsets}
 
 pub slant_lowest : (points : List Point) (k : ℕ) → 4 ≤ length points → length points ≤ 8191 → IsClosed points → IsFirstSlant points k
@@ -106,7 +106,7 @@ path_grid pair fixed half begin end points items is outlines =
           grid_of (get_or items k d) (outlines k d lt) offsets
     ] is
 
-path_lowest : (half begin end : ℤ) (points : List Point) → half ≢ pos 0 → ¬ IsDrawable points half begin end → IsLowest (KeepsPath half begin end points) 14
+path_lowest : (half begin end : ℤ) (points : List Point) → half ≢ pos 0 → ¬ IsDrawable points half begin end → IsLowest (KeepsGdsiiPath half begin end points) 14
 path_lowest half begin end points wide none = record {
   broken = λ kept. none (kept refl wide);
   lower = λ other less eq. absurd (omega arith);
@@ -114,7 +114,7 @@ path_lowest half begin end points wide none = record {
 
 -- a path with a width is refused for its rule where it can't be drawn
 pub path_broken : (half begin end : ℤ) (points : List Point) (bad : PathBad) (at : ℕ) → half ≢ pos 0
-    → (bad ≢ paths.NoMemory → ¬ IsDrawable points half begin end) → IsForFault (IsRefusedBy (KeepsPath half begin end points) at) (refusal_by bad at)
+    → (bad ≢ paths.NoMemory → ¬ IsDrawable points half begin end) → IsForFault (IsRefusedBy (KeepsGdsiiPath half begin end points) at) (refusal_by bad at)
 path_broken half begin end points paths.NoMemory at wide none = tt
 path_broken half begin end points paths.NoLength at wide none = (14, refl, path_lowest half begin end points wide (none (λ x. absurd (cc))))
 path_broken half begin end points (paths.Diagonal k) at wide none = (14, refl, path_lowest half begin end points wide (none (λ x. absurd (cc))))

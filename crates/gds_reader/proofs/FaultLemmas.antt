@@ -6,8 +6,8 @@ use Rattle.std.proofs.lemmas.List.{reverse-reverse, append-nil}
 use Rattle.layout_model.specs.declared.pair.Pair.{Pair}
 use Rattle.layout_model.specs.declared.cells.Layout.{Layout}
 use Rattle.gds_record.specs.Framing.{IsRecordAt}
-use Rattle.gds_record.specs.Reals.{Agrees}
-use Rattle.gds_record.specs.Runs.{IsRun, NoneEnds, EndsOnlyLast, IsClosed}
+use Rattle.gds_record.specs.Reals.{AgreesWithUnit}
+use Rattle.gds_record.specs.Runs.{AreRecordsEndToEnd, NoRecordEnds, EndsOnlyLast, IsLibraryClosed}
 use Rattle.gds_record.specs.declared.kinds.Kind.TheVariants.{StrName, Units, EndLib}
 use Rattle.gds_record.specs.declared.records.Record.{Record}
 use Rattle.gds_record.proofs.ForCallers.{record_unique, record_or_fault, fault_unique, records_unique}
@@ -15,10 +15,10 @@ use Rattle.gds_reader.specs.declared.refusing.GdsBad.{GdsBad}
 use Rattle.gds_reader.specs.declared.refusing.GdsBad.TheVariants as faults
 use Rattle.gds_reader.specs.Grammar.{IsStreamOrder, IsBeginning}
 use Rattle.gds_reader.specs.Meaning.{layout_of}
-use Rattle.gds_reader.specs.Values.{KeepsRules, IsLowest, IsLowestBroken, Keeps}
-use Rattle.gds_reader.specs.Reading.{kinds_of, unit_in, IsSameName, IsNamed, IsAllowed, AreAllowed, IsLayoutOf}
-use Rattle.gds_reader.specs.Reading.{IsReadUpTo, framing_fault, IsFramingFault, IsOrderFault, IsNext, IsValueFault}
-use Rattle.gds_reader.specs.Reading.{IsUnitFault, IsNameFault, IsTailFault, IsFault, OneLayout, OneFault}
+use Rattle.gds_reader.specs.Values.{KeepsGdsiiRules, IsLowest, IsLowestBrokenByRecord, KeepsGdsiiRule}
+use Rattle.gds_reader.specs.Reading.{kinds_of, unit_in, IsSameName, IsNamedBefore, IsRecordAllowed, AreRecordsAllowed, IsGdsiiLayoutOf}
+use Rattle.gds_reader.specs.Reading.{AreRecordsReadUpTo, framing_fault, IsFramingFault, IsGdsiiOrderFault, IsNext, IsGdsiiValueFault}
+use Rattle.gds_reader.specs.Reading.{IsGdsiiUnitFault, IsGdsiiNameFault, IsGdsiiTailFault, IsFault, OneLayout, OneFault}
 use Rattle.gds_reader.specs.Reading.{NoLayoutWithFault}
 use Rattle.gds_reader.proofs.TableLemmas.{named_among, one_earlier}
 use Rattle.gds_reader.proofs.RunLemmas.{GoesOn, compare_runs, allowed_on, begins_on, none_ends_at, none_ends_front, not_closed, last_ends}
@@ -29,40 +29,40 @@ use Rattle.gds_reader.proofs.RunLemmas.{GoesOn, compare_runs, allowed_on, begins
 pub record IsGood (bytes : List ℕ) (unit : ℕ) (wanted : List Pair) (past : List Record) (at : ℕ) (r : Record) : Type 0 where
   pub stands : IsRecordAt bytes at r
   pub order : IsBeginning (kinds_of (reverse (r ∷ past)))
-  pub allowed : IsAllowed bytes unit wanted past r
+  pub allowed : IsRecordAllowed bytes unit wanted past r
 
 same_record : (bytes : List ℕ) (at : ℕ) (P : Record → Type 0) (r s : Record) → IsRecordAt bytes at r → IsRecordAt bytes at s → P r → P s
 same_record bytes at P r s p q holds = subst P (record_unique bytes at r s p q) holds
 
 -- what is wrong after a good record can only be the tail
 only_tail : (bytes : List ℕ) (unit : ℕ) (wanted : List Pair) (past : List Record) (at : ℕ) (r : Record) (bad : GdsBad)
-    → IsGood bytes unit wanted past at r → IsFault bytes unit wanted past at bad → IsTailFault bytes unit wanted past at bad
+    → IsGood bytes unit wanted past at r → IsFault bytes unit wanted past at bad → IsGdsiiTailFault bytes unit wanted past at bad
 only_tail bytes unit wanted past at r bad good (inl f) = absurd (record_or_fault bytes at r f.0 good.stands f.1)
 only_tail bytes unit wanted past at r bad good (inr (inl f)) =
     absurd (f.order (same_record bytes at (λ x. IsBeginning (kinds_of (reverse (x ∷ past)))) r f.r good.stands f.stands good.order))
 only_tail bytes unit wanted past at r bad good (inr (inr (inl f))) =
-    absurd (f.broken.broken (same_record bytes at (KeepsRules bytes wanted past) r f.r good.stands f.next.stands good.allowed.rules f.rule))
+    absurd (f.broken.broken (same_record bytes at (KeepsGdsiiRules bytes wanted past) r f.r good.stands f.next.stands good.allowed.rules f.rule))
 only_tail bytes unit wanted past at r bad good (inr (inr (inr (inl f)))) =
     absurd (f.disagrees (same_record bytes at
-    (λ (x : Record). x.kind ≡ Units → Agrees (unit_in bytes x) unit) r f.r good.stands f.next.stands
+    (λ (x : Record). x.kind ≡ Units → AgreesWithUnit (unit_in bytes x) unit) r f.r good.stands f.next.stands
     good.allowed.unit_agrees f.kind))
 only_tail bytes unit wanted past at r bad good (inr (inr (inr (inr (inl f))))) =
-    absurd (same_record bytes at (λ (x : Record). x.kind ≡ StrName → ¬ IsNamed bytes past x) r f.r good.stands f.next.stands good.allowed.new_name f.kind
-    (subst (λ xs. IsNamed bytes xs f.r) (sym f.among) (named_among bytes f.before f.earlier f.after f.r f.same)))
+    absurd (same_record bytes at (λ (x : Record). x.kind ≡ StrName → ¬ IsNamedBefore bytes past x) r f.r good.stands f.next.stands good.allowed.new_name f.kind
+    (subst (λ xs. IsNamedBefore bytes xs f.r) (sym f.among) (named_among bytes f.before f.earlier f.after f.r f.same)))
 only_tail bytes unit wanted past at r bad good (inr (inr (inr (inr (inr f))))) = f
 
 -- a longer reading goes on with a good record that doesn't end the library
 no_fault_on : (bytes : List ℕ) (unit : ℕ) (wanted : List Pair) (past : List Record) (at : ℕ) (more : List Record) (up : ℕ) (bad : GdsBad)
-    → IsReadUpTo bytes unit wanted more up → GoesOn bytes (reverse past) at (reverse more) up → IsFault bytes unit wanted past at bad → ⊥
+    → AreRecordsReadUpTo bytes unit wanted more up → GoesOn bytes (reverse past) at (reverse more) up → IsFault bytes unit wanted past at bad → ⊥
 no_fault_on bytes unit wanted past at more up bad read on fault =
     let good : IsGood bytes unit wanted past at on.r = record {
       stands = on.stands;
       order = begins_on past on.r (reverse more) on.rest on.all read.order;
       allowed = allowed_on bytes unit wanted past on.r (reverse more) on.rest on.all
-          (subst (AreAllowed bytes unit wanted) (sym (reverse-reverse more)) read.allowed);
+          (subst (AreRecordsAllowed bytes unit wanted) (sym (reverse-reverse more)) read.allowed);
     } in
     let tail = only_tail bytes unit wanted past at on.r bad good fault in
-    let more_ends : on.r.kind ≢ EndLib = none_ends_at (reverse past) on.r on.rest (subst NoneEnds on.all read.goes_on) in
+    let more_ends : on.r.kind ≢ EndLib = none_ends_at (reverse past) on.r on.rest (subst NoRecordEnds on.all read.goes_on) in
     more_ends (same_record bytes at (λ (x : Record). x.kind ≡ EndLib) tail.r on.r tail.next.stands on.stands tail.kind)
 
 -- ---- one fault at one place
@@ -71,7 +71,7 @@ abbrev Ordered : List ℕ → List Record → ℕ → Type 0
 Ordered bytes past at = (r : Record) × IsNext bytes past at r
 
 abbrev Kept : List ℕ → List Pair → List Record → ℕ → Type 0
-Kept bytes wanted past at = (r : Record) × IsNext bytes past at r × KeepsRules bytes wanted past r
+Kept bytes wanted past at = (r : Record) × IsNext bytes past at r × KeepsGdsiiRules bytes wanted past r
 
 lowest_unique : (K : ℕ → Type 0) (m n : ℕ) → IsLowest K m → IsLowest K n → m ≡ n
 lowest_unique K m n p q = elim (cases_lt m n) [
@@ -83,22 +83,22 @@ lowest_unique K m n p q = elim (cases_lt m n) [
 ]
 
 kept_of : (bytes : List ℕ) (unit : ℕ) (wanted : List Pair) (past : List Record) (at : ℕ) (bad : GdsBad)
-    → IsUnitFault bytes unit wanted past at bad ⊎ IsNameFault bytes wanted past at bad ⊎ IsTailFault bytes unit wanted past at bad
+    → IsGdsiiUnitFault bytes unit wanted past at bad ⊎ IsGdsiiNameFault bytes wanted past at bad ⊎ IsGdsiiTailFault bytes unit wanted past at bad
     → Kept bytes wanted past at
 kept_of bytes unit wanted past at bad (inl f) = (f.r, f.next, f.rules)
 kept_of bytes unit wanted past at bad (inr (inl f)) = (f.r, f.next, f.rules)
 kept_of bytes unit wanted past at bad (inr (inr f)) = (f.r, f.next, f.allowed.rules)
 
 next_of : (bytes : List ℕ) (unit : ℕ) (wanted : List Pair) (past : List Record) (at : ℕ) (bad : GdsBad)
-    → IsValueFault bytes wanted past at bad
-    ⊎ IsUnitFault bytes unit wanted past at bad ⊎ IsNameFault bytes wanted past at bad ⊎ IsTailFault bytes unit wanted past at bad
+    → IsGdsiiValueFault bytes wanted past at bad
+    ⊎ IsGdsiiUnitFault bytes unit wanted past at bad ⊎ IsGdsiiNameFault bytes wanted past at bad ⊎ IsGdsiiTailFault bytes unit wanted past at bad
     → Ordered bytes past at
 next_of bytes unit wanted past at bad (inl f) = (f.r, f.next)
 next_of bytes unit wanted past at bad (inr f) = let k = kept_of bytes unit wanted past at bad f in (k.0, k.1)
 
 stands_of : (bytes : List ℕ) (unit : ℕ) (wanted : List Pair) (past : List Record) (at : ℕ) (bad : GdsBad)
-    → IsOrderFault bytes past at bad ⊎ IsValueFault bytes wanted past at bad
-    ⊎ IsUnitFault bytes unit wanted past at bad ⊎ IsNameFault bytes wanted past at bad ⊎ IsTailFault bytes unit wanted past at bad
+    → IsGdsiiOrderFault bytes past at bad ⊎ IsGdsiiValueFault bytes wanted past at bad
+    ⊎ IsGdsiiUnitFault bytes unit wanted past at bad ⊎ IsGdsiiNameFault bytes wanted past at bad ⊎ IsGdsiiTailFault bytes unit wanted past at bad
     → (r : Record) × IsRecordAt bytes at r
 stands_of bytes unit wanted past at bad (inl f) = (f.r, f.stands)
 stands_of bytes unit wanted past at bad (inr f) = let k = next_of bytes unit wanted past at bad f in (k.0, k.1.stands)
@@ -112,17 +112,17 @@ units_or_end bytes at r s p q a b = absurd (let k : Units ≡ EndLib = sym a ∙
 name_or_end : (bytes : List ℕ) (at : ℕ) (r s : Record) → IsRecordAt bytes at r → IsRecordAt bytes at s → r.kind ≡ StrName → s.kind ≡ EndLib → ⊥
 name_or_end bytes at r s p q a b = absurd (let k : StrName ≡ EndLib = sym a ∙ ap (λ (x : Record). x.kind) (record_unique bytes at r s p q) ∙ b in cc)
 
-same_name_fault : (bytes : List ℕ) (unit : ℕ) (wanted : List Pair) (past : List Record) (at : ℕ) (one other : GdsBad) → AreAllowed bytes unit wanted past
-    → IsNameFault bytes wanted past at one → IsNameFault bytes wanted past at other → one ≡ other
+same_name_fault : (bytes : List ℕ) (unit : ℕ) (wanted : List Pair) (past : List Record) (at : ℕ) (one other : GdsBad) → AreRecordsAllowed bytes unit wanted past
+    → IsGdsiiNameFault bytes wanted past at one → IsGdsiiNameFault bytes wanted past at other → one ≡ other
 same_name_fault bytes unit wanted past at one other allowed f g =
     let record_is : g.r ≡ f.r = record_unique bytes at g.r f.r g.next.stands f.next.stands in
     let same : f.earlier ≡ g.earlier =
-    one_earlier bytes unit wanted f.r f.earlier g.earlier f.before f.after g.before g.after (subst (AreAllowed bytes unit wanted) f.among allowed)
+    one_earlier bytes unit wanted f.r f.earlier g.earlier f.before f.after g.before g.after (subst (AreRecordsAllowed bytes unit wanted) f.among allowed)
     (sym f.among ∙ g.among) f.same (subst (λ x. IsSameName bytes x g.earlier) record_is g.same) in
     f.bad_is ∙ ap (λ (x : Record). faults.Twice (x.first - 4) at) same ∙ sym g.bad_is
 
 same_tail_fault : (bytes : List ℕ) (unit : ℕ) (wanted : List Pair) (past : List Record) (at : ℕ) (one other : GdsBad)
-    → IsTailFault bytes unit wanted past at one → IsTailFault bytes unit wanted past at other → one ≡ other
+    → IsGdsiiTailFault bytes unit wanted past at one → IsGdsiiTailFault bytes unit wanted past at other → one ≡ other
 same_tail_fault bytes unit wanted past at one other f g =
     let next : f.r.next ≡ g.r.next = ap (λ (x : Record). x.next) (record_unique bytes at f.r g.r f.next.stands g.next.stands) in
     let same : f.tail ≡ g.tail = elim (cases_lt f.tail g.tail) [
@@ -134,9 +134,9 @@ same_tail_fault bytes unit wanted past at one other f g =
     ] in
     f.bad_is ∙ ap faults.Tail same ∙ sym g.bad_is
 
-same_late : (bytes : List ℕ) (unit : ℕ) (wanted : List Pair) (past : List Record) (at : ℕ) (one other : GdsBad) → AreAllowed bytes unit wanted past
-    → IsUnitFault bytes unit wanted past at one ⊎ IsNameFault bytes wanted past at one ⊎ IsTailFault bytes unit wanted past at one
-    → IsUnitFault bytes unit wanted past at other ⊎ IsNameFault bytes wanted past at other ⊎ IsTailFault bytes unit wanted past at other
+same_late : (bytes : List ℕ) (unit : ℕ) (wanted : List Pair) (past : List Record) (at : ℕ) (one other : GdsBad) → AreRecordsAllowed bytes unit wanted past
+    → IsGdsiiUnitFault bytes unit wanted past at one ⊎ IsGdsiiNameFault bytes wanted past at one ⊎ IsGdsiiTailFault bytes unit wanted past at one
+    → IsGdsiiUnitFault bytes unit wanted past at other ⊎ IsGdsiiNameFault bytes wanted past at other ⊎ IsGdsiiTailFault bytes unit wanted past at other
     → one ≡ other
 same_late bytes unit wanted past at one other allowed (inl f) (inl g) =
     f.bad_is ∙ ap (λ x. faults.Unit (unit_in bytes x)) (record_unique bytes at f.r g.r f.next.stands g.next.stands) ∙ sym g.bad_is
@@ -152,37 +152,37 @@ same_late bytes unit wanted past at one other allowed (inr (inr f)) (inr (inl g)
 same_late bytes unit wanted past at one other allowed (inr (inr f)) (inr (inr g)) = same_tail_fault bytes unit wanted past at one other f g
 
 broken_or_kept : (bytes : List ℕ) (unit : ℕ) (wanted : List Pair) (past : List Record) (at : ℕ) (one other : GdsBad)
-    → IsValueFault bytes wanted past at one
-    → IsUnitFault bytes unit wanted past at other ⊎ IsNameFault bytes wanted past at other ⊎ IsTailFault bytes unit wanted past at other → ⊥
+    → IsGdsiiValueFault bytes wanted past at one
+    → IsGdsiiUnitFault bytes unit wanted past at other ⊎ IsGdsiiNameFault bytes wanted past at other ⊎ IsGdsiiTailFault bytes unit wanted past at other → ⊥
 broken_or_kept bytes unit wanted past at one other f g =
     let k = kept_of bytes unit wanted past at other g in
-    f.broken.broken (same_record bytes at (KeepsRules bytes wanted past) k.0 f.r k.1.stands f.next.stands k.2 f.rule)
+    f.broken.broken (same_record bytes at (KeepsGdsiiRules bytes wanted past) k.0 f.r k.1.stands f.next.stands k.2 f.rule)
 
-same_value : (bytes : List ℕ) (unit : ℕ) (wanted : List Pair) (past : List Record) (at : ℕ) (one other : GdsBad) → AreAllowed bytes unit wanted past
-    → IsValueFault bytes wanted past at one ⊎ IsUnitFault bytes unit wanted past at one
-    ⊎ IsNameFault bytes wanted past at one ⊎ IsTailFault bytes unit wanted past at one
-    → IsValueFault bytes wanted past at other ⊎ IsUnitFault bytes unit wanted past at other
-    ⊎ IsNameFault bytes wanted past at other ⊎ IsTailFault bytes unit wanted past at other
+same_value : (bytes : List ℕ) (unit : ℕ) (wanted : List Pair) (past : List Record) (at : ℕ) (one other : GdsBad) → AreRecordsAllowed bytes unit wanted past
+    → IsGdsiiValueFault bytes wanted past at one ⊎ IsGdsiiUnitFault bytes unit wanted past at one
+    ⊎ IsGdsiiNameFault bytes wanted past at one ⊎ IsGdsiiTailFault bytes unit wanted past at one
+    → IsGdsiiValueFault bytes wanted past at other ⊎ IsGdsiiUnitFault bytes unit wanted past at other
+    ⊎ IsGdsiiNameFault bytes wanted past at other ⊎ IsGdsiiTailFault bytes unit wanted past at other
     → one ≡ other
 same_value bytes unit wanted past at one other allowed (inl f) (inl g) =
-    let broken : IsLowestBroken bytes wanted past g.r f.rule =
-    same_record bytes at (λ x. IsLowestBroken bytes wanted past x f.rule) f.r g.r f.next.stands g.next.stands f.broken in
-    f.bad_is ∙ ap (λ rule. faults.Value at rule) (lowest_unique (Keeps bytes wanted past g.r) f.rule g.rule broken g.broken) ∙ sym g.bad_is
+    let broken : IsLowestBrokenByRecord bytes wanted past g.r f.rule =
+    same_record bytes at (λ x. IsLowestBrokenByRecord bytes wanted past x f.rule) f.r g.r f.next.stands g.next.stands f.broken in
+    f.bad_is ∙ ap (λ rule. faults.Value at rule) (lowest_unique (KeepsGdsiiRule bytes wanted past g.r) f.rule g.rule broken g.broken) ∙ sym g.bad_is
 same_value bytes unit wanted past at one other allowed (inl f) (inr g) = absurd (broken_or_kept bytes unit wanted past at one other f g)
 same_value bytes unit wanted past at one other allowed (inr f) (inl g) = absurd (broken_or_kept bytes unit wanted past at other one g f)
 same_value bytes unit wanted past at one other allowed (inr f) (inr g) = same_late bytes unit wanted past at one other allowed f g
 
-order_or_next : (bytes : List ℕ) (past : List Record) (at : ℕ) (bad : GdsBad) → IsOrderFault bytes past at bad → Ordered bytes past at → ⊥
+order_or_next : (bytes : List ℕ) (past : List Record) (at : ℕ) (bad : GdsBad) → IsGdsiiOrderFault bytes past at bad → Ordered bytes past at → ⊥
 order_or_next bytes past at bad f k =
     f.order (same_record bytes at (λ x. IsBeginning (kinds_of (reverse (x ∷ past)))) k.0 f.r k.1.stands f.stands k.1.order)
 
-same_order : (bytes : List ℕ) (unit : ℕ) (wanted : List Pair) (past : List Record) (at : ℕ) (one other : GdsBad) → AreAllowed bytes unit wanted past
-    → IsOrderFault bytes past at one ⊎ IsValueFault bytes wanted past at one
-    ⊎ IsUnitFault bytes unit wanted past at one ⊎ IsNameFault bytes wanted past at one
-    ⊎ IsTailFault bytes unit wanted past at one
-    → IsOrderFault bytes past at other ⊎ IsValueFault bytes wanted past at other
-    ⊎ IsUnitFault bytes unit wanted past at other ⊎ IsNameFault bytes wanted past at other
-    ⊎ IsTailFault bytes unit wanted past at other
+same_order : (bytes : List ℕ) (unit : ℕ) (wanted : List Pair) (past : List Record) (at : ℕ) (one other : GdsBad) → AreRecordsAllowed bytes unit wanted past
+    → IsGdsiiOrderFault bytes past at one ⊎ IsGdsiiValueFault bytes wanted past at one
+    ⊎ IsGdsiiUnitFault bytes unit wanted past at one ⊎ IsGdsiiNameFault bytes wanted past at one
+    ⊎ IsGdsiiTailFault bytes unit wanted past at one
+    → IsGdsiiOrderFault bytes past at other ⊎ IsGdsiiValueFault bytes wanted past at other
+    ⊎ IsGdsiiUnitFault bytes unit wanted past at other ⊎ IsGdsiiNameFault bytes wanted past at other
+    ⊎ IsGdsiiTailFault bytes unit wanted past at other
     → one ≡ other
 same_order bytes unit wanted past at one other allowed (inl f) (inl g) = f.bad_is ∙ sym g.bad_is
 same_order bytes unit wanted past at one other allowed (inl f) (inr g) = absurd (order_or_next bytes past at one f (next_of bytes unit wanted past at other g))
@@ -192,7 +192,7 @@ same_order bytes unit wanted past at one other allowed (inr f) (inr g) = same_va
 framed_or_not : (bytes : List ℕ) (at : ℕ) (bad : GdsBad) → IsFramingFault bytes at bad → (r : Record) × IsRecordAt bytes at r → ⊥
 framed_or_not bytes at bad f k = record_or_fault bytes at k.0 f.0 k.1 f.1
 
-same_fault : (bytes : List ℕ) (unit : ℕ) (wanted : List Pair) (past : List Record) (at : ℕ) (one other : GdsBad) → AreAllowed bytes unit wanted past
+same_fault : (bytes : List ℕ) (unit : ℕ) (wanted : List Pair) (past : List Record) (at : ℕ) (one other : GdsBad) → AreRecordsAllowed bytes unit wanted past
     → IsFault bytes unit wanted past at one → IsFault bytes unit wanted past at other → one ≡ other
 same_fault bytes unit wanted past at one other allowed (inl f) (inl g) =
     f.2 ∙ ap (λ x. framing_fault x at) (fault_unique bytes at f.0 g.0 f.1 g.1) ∙ sym g.2
@@ -224,7 +224,7 @@ one_layout bytes unit wanted one other p q =
 
 -- a record of a whole file that may be its last
 no_fault_within : (bytes : List ℕ) (unit : ℕ) (wanted : List Pair) (layout : Layout) (past : List Record) (at : ℕ) (bad : GdsBad)
-    → (p : IsLayoutOf bytes unit wanted layout) → GoesOn bytes (reverse past) at p.records p.framed.to → IsFault bytes unit wanted past at bad → ⊥
+    → (p : IsGdsiiLayoutOf bytes unit wanted layout) → GoesOn bytes (reverse past) at p.records p.framed.to → IsFault bytes unit wanted past at bad → ⊥
 no_fault_within bytes unit wanted layout past at bad p on fault =
     let good : IsGood bytes unit wanted past at on.r = record {
       stands = on.stands;
@@ -235,14 +235,14 @@ no_fault_within bytes unit wanted layout past at bad p on fault =
     let same : tail.r ≡ on.r = record_unique bytes at tail.r on.r tail.next.stands on.stands in
     let ends : on.r.kind ≡ EndLib = subst (λ (x : Record). x.kind ≡ EndLib) same tail.kind in
     let none : on.rest ≡ [] = last_ends (reverse past) on.r on.rest (subst EndsOnlyLast on.all p.framed.records.ends) ends in
-    let to : on.r.next ≡ p.framed.to = subst (λ xs. IsRun bytes on.r.next xs p.framed.to) none on.run in
+    let to : on.r.next ≡ p.framed.to = subst (λ xs. AreRecordsEndToEnd bytes on.r.next xs p.framed.to) none on.run in
     let behind : p.framed.to ≤ tail.tail = subst (λ n. n ≤ tail.tail) (ap (λ (x : Record). x.next) same ∙ to) tail.behind in
     tail.nonzero (p.framed.blank tail.tail behind tail.within)
 
 pub no_layout_with_fault : NoLayoutWithFault
 no_layout_with_fault bytes unit wanted layout bad p f =
     elim (compare_runs bytes 0 (reverse f.past) p.records f.at p.framed.to f.read.run p.framed.records.run) [
-      | inl same ↦ not_closed (reverse f.past) f.read.goes_on (subst IsClosed (sym same.0) p.framed.closed)
+      | inl same ↦ not_closed (reverse f.past) f.read.goes_on (subst IsLibraryClosed (sym same.0) p.framed.closed)
       | inr (inl on) ↦ no_fault_within bytes unit wanted layout f.past f.at bad p on f.fault
-      | inr (inr on) ↦ not_closed p.records (none_ends_front p.records (on.r ∷ on.rest) (subst NoneEnds on.all f.read.goes_on)) p.framed.closed
+      | inr (inr on) ↦ not_closed p.records (none_ends_front p.records (on.r ∷ on.rest) (subst NoRecordEnds on.all f.read.goes_on)) p.framed.closed
     ]

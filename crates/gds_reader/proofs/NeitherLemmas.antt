@@ -8,10 +8,10 @@ use Rattle.std.proofs.lemmas.List.{reverse-reverse}
 use Rattle.half_grid.specs.declared.plane.Point.{Point}
 use Rattle.layout_model.specs.declared.pair.Pair.{Pair}
 use Rattle.gds_record.specs.Faults.{IsFaultAt}
-use Rattle.gds_record.specs.Framing.{length_at, head_at, IsRecordLength, IsWhole, IsRecordAt}
+use Rattle.gds_record.specs.Framing.{length_at, head_at, IsRecordLength, IsWholeRecord, IsRecordAt}
 use Rattle.gds_record.specs.Heads.{head_of}
-use Rattle.gds_record.specs.Reals.{Agrees}
-use Rattle.gds_record.specs.Runs.{IsRun, NoneEnds, IsClosed, IsRecordsOf}
+use Rattle.gds_record.specs.Reals.{AgreesWithUnit}
+use Rattle.gds_record.specs.Runs.{AreRecordsEndToEnd, NoRecordEnds, IsLibraryClosed, IsRecordsOf}
 use Rattle.gds_record.specs.declared.kinds.Kind.{Kind}
 use Rattle.gds_record.specs.declared.kinds.Kind.TheVariants.{Format, StrName, Sname, Strans, Mag, Angle, ColRow}
 use Rattle.gds_record.specs.declared.kinds.Kind.TheVariants.{PathType, Xy, Sref, Aref, Boundary, Path, Units, EndLib}
@@ -27,9 +27,9 @@ use Rattle.gds_reader.specs.Meaning.{layout_of}
 use Rattle.gds_reader.specs.Names.{place_of}
 use Rattle.gds_reader.specs.Past.{same_kind, element_kind}
 use Rattle.gds_reader.specs.Readers.{place_behind, next_after}
-use Rattle.gds_reader.specs.Reading.{kinds_of, unit_in, IsAllowed, AreAllowed, IsReadUpTo, IsNext, IsNamed, IsFault}
+use Rattle.gds_reader.specs.Reading.{kinds_of, unit_in, IsRecordAllowed, AreRecordsAllowed, AreRecordsReadUpTo, IsNext, IsNamedBefore, IsFault}
 use Rattle.gds_reader.specs.Reading.{framing_fault, HoldNoLayout, HaveNoFault, OthersHaveFault}
-use Rattle.gds_reader.specs.Values.{KeepsXy, KeepsAs, Keeps, KeepsRules, IsLowest, IsLowestBroken, name_in, points_in}
+use Rattle.gds_reader.specs.Values.{KeepsXy, KeepsAs, KeepsGdsiiRule, KeepsGdsiiRules, IsLowest, IsLowestBrokenByRecord, name_in, points_in}
 use Rattle.gds_reader.proofs.KindLemmas.{same_kind_is, same_kind_refl}
 use Rattle.gds_reader.proofs.PlaceLemmas.{LeadsTo, leads_first, leads_begin, leads_end}
 use Rattle.gds_reader.proofs.ReadLemmas.{leads, next_stands, no_next, ended_place}
@@ -38,7 +38,7 @@ use Rattle.gds_reader.proofs.TableLemmas.{found_name, not_named}
 
 -- ---- framing
 
-whole_or_not : (bytes : List ℕ) (at : ℕ) → ((f : Framing) → IsFaultAt bytes at f → ⊥) → (IsWhole bytes at → ⊥) → ⊥
+whole_or_not : (bytes : List ℕ) (at : ℕ) → ((f : Framing) → IsFaultAt bytes at f → ⊥) → (IsWholeRecord bytes at → ⊥) → ⊥
 whole_or_not bytes at sound none =
     elim (cases_lt (length bytes) (at + 4)) [
       | inl short ↦ sound framing.Short (inl short)
@@ -56,7 +56,7 @@ whole_or_not bytes at sound none =
       ]
     ]
 
-of_kind : (bytes : List ℕ) (at : ℕ) (kind : Kind) → IsWhole bytes at → head_at bytes at ≡ head_of kind
+of_kind : (bytes : List ℕ) (at : ℕ) (kind : Kind) → IsWholeRecord bytes at → head_at bytes at ≡ head_of kind
     → ((f : Framing) → IsFaultAt bytes at f → ⊥) → ((r : Record) → IsRecordAt bytes at r → ⊥) → ⊥
 of_kind bytes at kind whole head sound none =
     sound framing.Size (
@@ -116,10 +116,10 @@ far_rule bytes wanted past kind r rule far =
       | _ ↦ tt
     ]
 
-rules_or_not : (bytes : List ℕ) (wanted : List Pair) (past : List Record) (r : Record) → ((rule : ℕ) → IsLowestBroken bytes wanted past r rule → ⊥)
-    → (KeepsRules bytes wanted past r → ⊥) → ⊥
+rules_or_not : (bytes : List ℕ) (wanted : List Pair) (past : List Record) (r : Record) → ((rule : ℕ) → IsLowestBrokenByRecord bytes wanted past r rule → ⊥)
+    → (KeepsGdsiiRules bytes wanted past r → ⊥) → ⊥
 rules_or_not bytes wanted past r none refute =
-    first_kept (Keeps bytes wanted past r) none 15
+    first_kept (KeepsGdsiiRule bytes wanted past r) none 15
     (λ below. refute (λ rule. elim (cases_lt rule 15) [ inl near ↦ below rule near | inr far ↦ far_rule bytes wanted past r.kind r rule (omega arith) ]))
 
 -- ---- a record that may follow
@@ -131,8 +131,8 @@ abbrev HasNoFault : List ℕ → ℕ → List Pair → List Record → ℕ → T
 HasNoFault bytes unit wanted past at = (bad : GdsBad) → IsFault bytes unit wanted past at bad → ⊥
 
 new_name : (bytes : List ℕ) (unit : ℕ) (wanted : List Pair) (past : List Record) (at : ℕ) (r : Record) (place : Option ℕ)
-    → HasNoFault bytes unit wanted past at → IsNext bytes past at r → KeepsRules bytes wanted past r
-    → place_of bytes (name_in bytes r) past ≡ place → r.kind ≡ StrName → ¬ IsNamed bytes past r
+    → HasNoFault bytes unit wanted past at → IsNext bytes past at r → KeepsGdsiiRules bytes wanted past r
+    → place_of bytes (name_in bytes r) past ≡ place → r.kind ≡ StrName → ¬ IsNamedBefore bytes past r
 new_name bytes unit wanted past at r None sound next rules e kind = not_named bytes r past e
 new_name bytes unit wanted past at r (Some first) sound next rules e kind =
     let found = found_name bytes r first past e in
@@ -150,11 +150,11 @@ new_name bytes unit wanted past at r (Some first) sound next rules e kind =
     })))))))
 
 allowed_or_not : (bytes : List ℕ) (unit : ℕ) (wanted : List Pair) (past : List Record) (at : ℕ) (r : Record) → HasNoFault bytes unit wanted past at
-    → IsNext bytes past at r → (IsAllowed bytes unit wanted past r → ⊥) → ⊥
+    → IsNext bytes past at r → (IsRecordAllowed bytes unit wanted past r → ⊥) → ⊥
 allowed_or_not bytes unit wanted past at r sound next none =
     rules_or_not bytes wanted past r
     (λ rule broken. sound (Value at rule) (inr (inr (inl (record { r = r; next = next; rule = rule; broken = broken; bad_is = refl })))))
-    (λ rules. only_if {A = r.kind ≡ Units} {B = Agrees (unit_in bytes r) unit}
+    (λ rules. only_if {A = r.kind ≡ Units} {B = AgreesWithUnit (unit_in bytes r) unit}
     (λ kind disagrees. sound (OtherUnit (unit_in bytes r))
     (inr (inr (inr (inl (record { r = r; next = next; rules = rules; kind = kind; disagrees = disagrees; bad_is = refl }))))))
     (λ agrees. none (record {
@@ -180,8 +180,8 @@ all_zeros bytes from none (suc n) k lt behind within =
     ]
 
 ends_or_not : (bytes : List ℕ) (unit : ℕ) (wanted : List Pair) (past : List Record) (at : ℕ) (r : Record) (place : Place)
-    → HoldNoLayout bytes unit wanted → HasNoFault bytes unit wanted past at → IsReadUpTo bytes unit wanted past at → IsNext bytes past at r
-    → IsAllowed bytes unit wanted past r → next_after (place_behind past) r ≡ Some place → r.kind ≡ EndLib → ⊥
+    → HoldNoLayout bytes unit wanted → HasNoFault bytes unit wanted past at → AreRecordsReadUpTo bytes unit wanted past at → IsNext bytes past at r
+    → IsRecordAllowed bytes unit wanted past r → next_after (place_behind past) r ≡ Some place → r.kind ≡ EndLib → ⊥
 ends_or_not bytes unit wanted past at r place none sound read next allowed e end =
     let blank : (k : ℕ) → r.next ≤ k → k < length bytes → slice_index bytes k ≡ 0 = λ k behind within.
     all_zeros bytes r.next
@@ -206,22 +206,22 @@ ends_or_not bytes unit wanted past at r place none sound read next allowed e end
       framed = record {
         to = r.next;
         records = subst (λ rs. IsRecordsOf bytes rs r.next) (sym more) (records_closed bytes (reverse past) at r read.run read.goes_on next.stands end);
-        closed = subst IsClosed (sym more) (closed_push (reverse past) r end);
+        closed = subst IsLibraryClosed (sym more) (closed_push (reverse past) r end);
         blank = blank;
       };
       order = leads_end (kinds_of (reverse (r ∷ past))) (subst (LeadsTo (kinds_of (reverse (r ∷ past)))) last (leads (r ∷ past) place e));
-      allowed = subst (AreAllowed bytes unit wanted) (sym turned) (allowed, read.allowed);
+      allowed = subst (AreRecordsAllowed bytes unit wanted) (sym turned) (allowed, read.allowed);
       layout_is = refl;
     })
 
 -- ---- all records
 
 read_on : (bytes : List ℕ) (unit : ℕ) (wanted : List Pair) (past : List Record) (at : ℕ) (r : Record) (place : Place)
-    → IsReadUpTo bytes unit wanted past at → IsNext bytes past at r → IsAllowed bytes unit wanted past r → next_after (place_behind past) r ≡ Some place
-    → r.kind ≢ EndLib → IsReadUpTo bytes unit wanted (r ∷ past) r.next
+    → AreRecordsReadUpTo bytes unit wanted past at → IsNext bytes past at r → IsRecordAllowed bytes unit wanted past r → next_after (place_behind past) r ≡ Some place
+    → r.kind ≢ EndLib → AreRecordsReadUpTo bytes unit wanted (r ∷ past) r.next
 read_on bytes unit wanted past at r place read next allowed e more = record {
-  run = subst (λ rs. IsRun bytes 0 rs r.next) (sym (reverse_more r past)) (run_push bytes 0 (reverse past) at r read.run next.stands);
-  goes_on = subst NoneEnds (sym (reverse_more r past)) (none_ends-push (reverse past) r read.goes_on more);
+  run = subst (λ rs. AreRecordsEndToEnd bytes 0 rs r.next) (sym (reverse_more r past)) (run_push bytes 0 (reverse past) at r read.run next.stands);
+  goes_on = subst NoRecordEnds (sym (reverse_more r past)) (none_ends-push (reverse past) r read.goes_on more);
   order = leads_begin (kinds_of (reverse (r ∷ past))) place (leads (r ∷ past) place e);
   allowed = (allowed, read.allowed);
 }
@@ -231,7 +231,7 @@ other_than_end kind other e = absurd (let same : same_kind kind EndLib ≡ true 
 
 -- with so many bytes left at most
 none_left : (bytes : List ℕ) (unit : ℕ) (wanted : List Pair) → HoldNoLayout bytes unit wanted → HaveNoFault bytes unit wanted → (n : ℕ)
-    → (past : List Record) (at : ℕ) (place : Place) → place_behind past ≡ Some place → IsReadUpTo bytes unit wanted past at → length bytes ≤ at + n → ⊥
+    → (past : List Record) (at : ℕ) (place : Place) → place_behind past ≡ Some place → AreRecordsReadUpTo bytes unit wanted past at → length bytes ≤ at + n → ⊥
 none_left bytes unit wanted none faultless zero past at place e read left =
     record_or_not bytes at
     (λ f q. faultless (framing_fault f at) (record { past = past; at = at; read = read; fault = inl (f, q, refl) }))

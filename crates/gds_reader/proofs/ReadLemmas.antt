@@ -12,7 +12,7 @@ use Rattle.geo_stream.specs.declared.refusal.Refusal.{Refusal}
 use Rattle.geo_stream.specs.declared.refusal.Refusal.TheVariants.{Fault, NoMemory}
 use Rattle.gds_record.specs.Faults.{IsFaultAt}
 use Rattle.gds_record.specs.Framing.{IsRecordAt}
-use Rattle.gds_record.specs.Runs.{IsRun, NoneEnds, IsClosed, IsRecordsOf}
+use Rattle.gds_record.specs.Runs.{AreRecordsEndToEnd, NoRecordEnds, IsLibraryClosed, IsRecordsOf}
 use Rattle.gds_record.specs.declared.kinds.Kind.TheVariants.{EndLib, Text, Node, Box, PropAttr}
 use Rattle.gds_record.specs.declared.records.Framing.{Framing}
 use Rattle.gds_record.specs.declared.records.Record.{Record}
@@ -29,7 +29,7 @@ use Rattle.gds_reader.specs.Elements.{IsHeld}
 use Rattle.gds_reader.specs.Meaning.{layout_of, cells_of, counts_of, is_kept, is_other, wanted_at}
 use Rattle.gds_reader.specs.Past.{has_kind}
 use Rattle.gds_reader.specs.Readers.{IsReaderOf, IsTaken, IsRefused, IsStanding, IsTail, place_behind, next_after}
-use Rattle.gds_reader.specs.Reading.{kinds_of, IsAllowed, AreAllowed, IsLayoutOf, IsReadUpTo, IsNext, IsFault, IsFirstFault, framing_fault}
+use Rattle.gds_reader.specs.Reading.{kinds_of, IsRecordAllowed, AreRecordsAllowed, IsGdsiiLayoutOf, AreRecordsReadUpTo, IsNext, IsFault, IsFirstGdsiiFault, framing_fault}
 use Rattle.gds_reader.specs.Steps.{next_place}
 use Rattle.gds_reader.proofs.CellLemmas.{count_few, names_distinct}
 use Rattle.gds_reader.proofs.FaultLemmas.{one_layout, one_fault, no_layout_with_fault}
@@ -97,7 +97,7 @@ refused_fault bytes unit wanted past at r place bad e stands (inr (inr (inr f)))
     })))))
 
 pub taken_allowed : (bytes : List ℕ) (unit : ℕ) (wanted : List Pair) (past : List Record) (r : Record) → IsTaken bytes unit wanted past r
-    → IsAllowed bytes unit wanted past r
+    → IsRecordAllowed bytes unit wanted past r
 taken_allowed bytes unit wanted past r t = record {
   rules = t.rules;
   unit_agrees = t.unit_agrees;
@@ -107,7 +107,7 @@ taken_allowed bytes unit wanted past r t = record {
 -- ---- where the reader stands
 
 pub read_up_to : (bytes : List ℕ) (unit : ℕ) (wanted sorted : List Pair) (at : ℕ) (reader : Reader) → (s : IsStanding bytes unit sorted at reader)
-    → AreSamePairs wanted sorted → IsReadUpTo bytes unit wanted s.past at
+    → AreSamePairs wanted sorted → AreRecordsReadUpTo bytes unit wanted s.past at
 read_up_to bytes unit wanted sorted at reader s same = record {
   run = s.run;
   goes_on = s.goes_on;
@@ -117,7 +117,7 @@ read_up_to bytes unit wanted sorted at reader s same = record {
 
 pub framing_first : (bytes : List ℕ) (unit : ℕ) (wanted sorted : List Pair) (at : ℕ) (reader : Reader) (fault : Framing) (bad : GdsBad)
     → IsStanding bytes unit sorted at reader → AreSamePairs wanted sorted → IsFaultAt bytes at fault → bad ≡ framing_fault fault at
-    → IsFirstFault bytes unit wanted bad
+    → IsFirstGdsiiFault bytes unit wanted bad
 framing_first bytes unit wanted sorted at reader fault bad s same is bad_is = record {
   past = s.past;
   at = at;
@@ -127,7 +127,7 @@ framing_first bytes unit wanted sorted at reader fault bad s same is bad_is = re
 
 pub refused_first : (bytes : List ℕ) (unit : ℕ) (wanted sorted : List Pair) (at : ℕ) (reader : Reader) (r : Record) (refusal : Refusal GdsBad)
     → (s : IsStanding bytes unit sorted at reader) → AreSamePairs wanted sorted → IsRecordAt bytes at r
-    → IsForFault (IsRefused bytes unit wanted s.past r at) refusal → IsForFault (IsFirstFault bytes unit wanted) refusal
+    → IsForFault (IsRefused bytes unit wanted s.past r at) refusal → IsForFault (IsFirstGdsiiFault bytes unit wanted) refusal
 refused_first bytes unit wanted sorted at reader r (Fault bad) s same stands refused = record {
   past = s.past;
   at = at;
@@ -153,8 +153,8 @@ pub stands_on : (bytes : List ℕ) (unit : ℕ) (sorted : List Pair) (at : ℕ) 
     → IsStanding bytes unit sorted r.next new
 stands_on bytes unit sorted at old new r s stands more reader_is taken = record {
   past = r ∷ s.past;
-  run = subst (λ rs. IsRun bytes 0 rs r.next) (sym (reverse_more r s.past)) (run_push bytes 0 (reverse s.past) at r s.run stands);
-  goes_on = subst NoneEnds (sym (reverse_more r s.past)) (none_ends-push (reverse s.past) r s.goes_on more);
+  run = subst (λ rs. AreRecordsEndToEnd bytes 0 rs r.next) (sym (reverse_more r s.past)) (run_push bytes 0 (reverse s.past) at r s.run stands);
+  goes_on = subst NoRecordEnds (sym (reverse_more r s.past)) (none_ends-push (reverse s.past) r s.goes_on more);
   few = omega (arith, s.few, stands.next, stands.whole.sized.least);
   within = record_within bytes at r stands;
   allowed = λ wanted same. (taken_allowed bytes unit wanted s.past r (taken wanted same), s.allowed wanted same);
@@ -180,11 +180,11 @@ pub record IsEnded (bytes : List ℕ) (unit : ℕ) (sorted : List Pair) (at : �
   pub from : ℕ
   pub r : Record
   pub stands : IsRecordAt bytes from r
-  pub run : IsRun bytes 0 (reverse past) from
-  pub goes_on : NoneEnds (reverse past)
+  pub run : AreRecordsEndToEnd bytes 0 (reverse past) from
+  pub goes_on : NoRecordEnds (reverse past)
   pub next_is : r.next ≡ at
   pub end : r.kind ≡ EndLib
-  pub allowed : (wanted : List Pair) → AreSamePairs wanted sorted → AreAllowed bytes unit wanted (r ∷ past)
+  pub allowed : (wanted : List Pair) → AreSamePairs wanted sorted → AreRecordsAllowed bytes unit wanted (r ∷ past)
   pub reader_is : (wanted : List Pair) → AreSamePairs wanted sorted → IsReaderOf bytes wanted (r ∷ past) reader
 
 pub ended_place : (past : List Record) (r : Record) (b : Option Place) (place : Place) → place_behind past ≡ b → next_after b r ≡ Some place → r.kind ≡ EndLib
@@ -200,7 +200,7 @@ begins_before past r (Some place) e some = leads_begin (kinds_of (reverse past))
 pub ended_layout : (bytes : List ℕ) (unit : ℕ) (wanted sorted : List Pair) (at : ℕ) (reader : Reader) (layout : Layout)
     → IsEnded bytes unit sorted at reader → AreSamePairs wanted sorted
     → ((k : ℕ) → at ≤ k → k < length bytes → slice_index bytes k ≡ 0)
-    → layout.cells ≡ reader.cells → layout.counts ≡ reader.counts → IsLayoutOf bytes unit wanted layout
+    → layout.cells ≡ reader.cells → layout.counts ≡ reader.counts → IsGdsiiLayoutOf bytes unit wanted layout
 ended_layout bytes unit wanted sorted at reader layout s same blank cells counts =
     let is = s.reader_is wanted same in
     let turned : reverse (reverse (s.r ∷ s.past)) ≡ s.r ∷ s.past = reverse-reverse (s.r ∷ s.past) in
@@ -211,12 +211,12 @@ ended_layout bytes unit wanted sorted at reader layout s same blank cells counts
       framed = record {
         to = s.r.next;
         records = subst (λ rs. IsRecordsOf bytes rs s.r.next) (sym more) (records_closed bytes (reverse s.past) s.from s.r s.run s.goes_on s.stands s.end);
-        closed = subst IsClosed (sym more) (closed_push (reverse s.past) s.r s.end);
+        closed = subst IsLibraryClosed (sym more) (closed_push (reverse s.past) s.r s.end);
         blank = λ k behind within. blank k (subst (λ n. n ≤ k) s.next_is behind) within;
       };
       order = leads_end (kinds_of (reverse (s.r ∷ s.past)))
           (subst (LeadsTo (kinds_of (reverse (s.r ∷ s.past)))) place (leads (s.r ∷ s.past) reader.place is.place));
-      allowed = subst (AreAllowed bytes unit wanted) (sym turned) (s.allowed wanted same);
+      allowed = subst (AreRecordsAllowed bytes unit wanted) (sym turned) (s.allowed wanted same);
       layout_is =
           ap (λ cs. let l : Layout = record { cells = cs; counts = layout.counts } in l) (cells ∙ is.cells)
           ∙ ap (λ n. let l : Layout = record { cells = cells_of bytes wanted (s.r ∷ s.past); counts = n } in l) (counts ∙ is.counts)
@@ -225,7 +225,7 @@ ended_layout bytes unit wanted sorted at reader layout s same blank cells counts
 
 pub ended_tail : (bytes : List ℕ) (unit : ℕ) (wanted sorted : List Pair) (at tail : ℕ) (reader : Reader) (bad : GdsBad)
     → IsEnded bytes unit sorted at reader → AreSamePairs wanted sorted → at ≤ tail → tail < length bytes → slice_index bytes tail ≢ 0
-    → ((k : ℕ) → at ≤ k → k < tail → slice_index bytes k ≡ 0) → bad ≡ Tail tail → IsFirstFault bytes unit wanted bad
+    → ((k : ℕ) → at ≤ k → k < tail → slice_index bytes k ≡ 0) → bad ≡ Tail tail → IsFirstGdsiiFault bytes unit wanted bad
 ended_tail bytes unit wanted sorted at tail reader bad s same behind within nonzero zeros bad_is =
     let is = s.reader_is wanted same in
     let allowed = s.allowed wanted same in
@@ -255,7 +255,7 @@ pub ended_ok : (bytes : List ℕ) (unit : ℕ) (wanted sorted : List Pair) (at :
     → IsEnded bytes unit sorted at reader → AreSamePairs wanted sorted
     → IfOk result (λ layout. layout.cells ≡ reader.cells) → IfOk result (λ layout. layout.counts ≡ reader.counts)
     → IfOk result (λ _. (k : ℕ) → at ≤ k → k < length bytes → slice_index bytes k ≡ 0)
-    → IfOk result (λ layout. IsLayoutOf bytes unit wanted layout)
+    → IfOk result (λ layout. IsGdsiiLayoutOf bytes unit wanted layout)
 ended_ok bytes unit wanted sorted at reader (Err bad) s same cells counts blank = tt
 ended_ok bytes unit wanted sorted at reader (Ok layout) s same cells counts blank =
     ended_layout bytes unit wanted sorted at reader layout s same blank cells counts
@@ -274,22 +274,22 @@ ended_grid bytes unit sorted at reader (Ok layout) s cells =
 
 pub ended_bad : (bytes : List ℕ) (unit : ℕ) (wanted sorted : List Pair) (at : ℕ) (reader : Reader) (result : Result Layout (Refusal GdsBad))
     → IsEnded bytes unit sorted at reader → AreSamePairs wanted sorted → IfFault result (IsTail bytes at)
-    → IfFault result (IsFirstFault bytes unit wanted)
+    → IfFault result (IsFirstGdsiiFault bytes unit wanted)
 ended_bad bytes unit wanted sorted at reader (Ok layout) s same tail = tt
 ended_bad bytes unit wanted sorted at reader (Err (Fault bad)) s same t =
     ended_tail bytes unit wanted sorted at t.0 reader bad s same t.2 t.3 t.4 t.5 t.1
 ended_bad bytes unit wanted sorted at reader (Err NoMemory) s same tail = tt
 
 pub every_layout : (bytes : List ℕ) (unit : ℕ) (wanted : List Pair) (result : Result Layout (Refusal GdsBad))
-    → IfOk result (λ layout. IsLayoutOf bytes unit wanted layout) → IfFault result (IsFirstFault bytes unit wanted)
-    → (layout : Layout) → IsLayoutOf bytes unit wanted layout → (result ≡ Ok layout) ⊎ (result ≡ Err NoMemory)
+    → IfOk result (λ layout. IsGdsiiLayoutOf bytes unit wanted layout) → IfFault result (IsFirstGdsiiFault bytes unit wanted)
+    → (layout : Layout) → IsGdsiiLayoutOf bytes unit wanted layout → (result ≡ Ok layout) ⊎ (result ≡ Err NoMemory)
 every_layout bytes unit wanted (Ok one) found fault layout is = inl (ap Ok (one_layout bytes unit wanted one layout found is))
 every_layout bytes unit wanted (Err (Fault bad)) found fault layout is = absurd (no_layout_with_fault bytes unit wanted layout bad is fault)
 every_layout bytes unit wanted (Err NoMemory) found fault layout is = inr refl
 
 pub every_first_fault : (bytes : List ℕ) (unit : ℕ) (wanted : List Pair) (result : Result Layout (Refusal GdsBad))
-    → IfOk result (λ layout. IsLayoutOf bytes unit wanted layout) → IfFault result (IsFirstFault bytes unit wanted)
-    → (bad : GdsBad) → IsFirstFault bytes unit wanted bad → (result ≡ Err (Fault bad)) ⊎ (result ≡ Err NoMemory)
+    → IfOk result (λ layout. IsGdsiiLayoutOf bytes unit wanted layout) → IfFault result (IsFirstGdsiiFault bytes unit wanted)
+    → (bad : GdsBad) → IsFirstGdsiiFault bytes unit wanted bad → (result ≡ Err (Fault bad)) ⊎ (result ≡ Err NoMemory)
 every_first_fault bytes unit wanted (Ok layout) found fault bad is = absurd (no_layout_with_fault bytes unit wanted layout bad found is)
 every_first_fault bytes unit wanted (Err (Fault one)) found fault bad is =
     inl (ap (λ one. Err (Fault one)) (one_fault bytes unit wanted one bad fault is))

@@ -3,8 +3,8 @@ use Rattle.std.proofs.Common.{◌≡◌, ℕ, zero, suc, ◌*◌, ◌/◌, ◌^�
 use Rattle.std.specs.Prelude.{IfSome, IfNone, IsSome, ℤ, pos, negsuc, ◌*ℤ◌, unsigned_abs}
 use Rattle.std.proofs.Math.Nat.{mul-div_cancel}
 use Rattle.std.proofs.lemmas.Int.{ints}
-use Rattle.gds_record.specs.Reals.{sign_of, exponent_of, fraction_of, with_sign, IsRealValue, IsWholeReal}
-use Rattle.gds_reader.specs.Values.{magnitude_of, IsFactor, IsQuarterAngle}
+use Rattle.gds_record.specs.Reals.{sign_of, exponent_of, fraction_of, with_sign, IsRealValue, IsWholeGdsiiReal}
+use Rattle.gds_reader.specs.Values.{magnitude_of, IsGdsiiFactor, IsGdsiiAngle}
 use Rattle.layout_model.specs.Turns.{IsTurn, turns_by}
 use Rattle.layout_model.proofs.ForCallers.{IsOneReal, factor_some, factor_none, turns_some, turns_none}
 use Rattle.gds_record.proofs.ForCallers.{real_value_unique}
@@ -45,7 +45,7 @@ size_of : (bits : ℕ) (z : ℤ) → IsRealValue bits z → magnitude_of bits �
 size_of bits (pos n) v = magnitude_pos bits n v
 size_of bits (negsuc n) v = magnitude_neg bits n v
 
-one_real : (bits : ℕ) → IsOneReal (IsWholeReal bits) (sign_of bits) (magnitude_of bits)
+one_real : (bits : ℕ) → IsOneReal (IsWholeGdsiiReal bits) (sign_of bits) (magnitude_of bits)
 one_real bits = record {
   one = λ z w a b. real_value_unique bits z w a.value b.value;
   size_is = λ z is. size_of bits z is.value;
@@ -61,26 +61,26 @@ value : (r : Option ℕ) (Q : Type 0) (P : ℕ → Type 0) → IfSome r (λ n. Q
 value None Q P some = some
 value (Some n) Q P some = some.1
 
-pub factor_both : (bits : ℕ) (z : ℤ) (r : Option ℕ) → IsWholeReal bits z → IfSome r (λ f. (z ≡ pos f) × (1 ≤ f) × (f ≤ 16))
-    → IfNone r ((f : ℕ) → z ≡ pos f → 1 ≤ f → f ≤ 16 → ⊥) → (IsSome r → IsFactor bits) × (IsFactor bits → IsSome r)
+pub factor_both : (bits : ℕ) (z : ℤ) (r : Option ℕ) → IsWholeGdsiiReal bits z → IfSome r (λ f. (z ≡ pos f) × (1 ≤ f) × (f ≤ 16))
+    → IfNone r ((f : ℕ) → z ≡ pos f → 1 ≤ f → f ≤ 16 → ⊥) → (IsSome r → IsGdsiiFactor bits) × (IsGdsiiFactor bits → IsSome r)
 factor_both bits z r real some none =
-    both r (IsFactor bits) (λ f. f ≡ magnitude_of bits) (factor_some (IsWholeReal bits) (sign_of bits) (magnitude_of bits) (one_real bits) z r real some)
-    (factor_none (IsWholeReal bits) (sign_of bits) (magnitude_of bits) (one_real bits) z r real none)
+    both r (IsGdsiiFactor bits) (λ f. f ≡ magnitude_of bits) (factor_some (IsWholeGdsiiReal bits) (sign_of bits) (magnitude_of bits) (one_real bits) z r real some)
+    (factor_none (IsWholeGdsiiReal bits) (sign_of bits) (magnitude_of bits) (one_real bits) z r real none)
 
-pub factor_value : (bits : ℕ) (z : ℤ) (r : Option ℕ) → IsWholeReal bits z → IfSome r (λ f. (z ≡ pos f) × (1 ≤ f) × (f ≤ 16))
+pub factor_value : (bits : ℕ) (z : ℤ) (r : Option ℕ) → IsWholeGdsiiReal bits z → IfSome r (λ f. (z ≡ pos f) × (1 ≤ f) × (f ≤ 16))
     → IfSome r (λ f. f ≡ magnitude_of bits)
 factor_value bits z r real some =
-    value r (IsFactor bits) (λ f. f ≡ magnitude_of bits) (factor_some (IsWholeReal bits) (sign_of bits) (magnitude_of bits) (one_real bits) z r real some)
+    value r (IsGdsiiFactor bits) (λ f. f ≡ magnitude_of bits) (factor_some (IsWholeGdsiiReal bits) (sign_of bits) (magnitude_of bits) (one_real bits) z r real some)
 
-pub turns_both : (bits : ℕ) (z : ℤ) (r : Option ℕ) → IsWholeReal bits z → IfSome r (λ t. IsTurn z t) → IfNone r ((t : ℕ) → ¬ IsTurn z t)
-    → (IsSome r → IsQuarterAngle bits) × (IsQuarterAngle bits → IsSome r)
+pub turns_both : (bits : ℕ) (z : ℤ) (r : Option ℕ) → IsWholeGdsiiReal bits z → IfSome r (λ t. IsTurn z t) → IfNone r ((t : ℕ) → ¬ IsTurn z t)
+    → (IsSome r → IsGdsiiAngle bits) × (IsGdsiiAngle bits → IsSome r)
 turns_both bits z r real some none =
-    both r (IsQuarterAngle bits) (λ t. t ≡ turns_by (sign_of bits) (magnitude_of bits / 90))
-    (turns_some (IsWholeReal bits) (sign_of bits) (magnitude_of bits) (one_real bits) z r real some)
-    (turns_none (IsWholeReal bits) (sign_of bits) (magnitude_of bits) (one_real bits) z r real none)
+    both r (IsGdsiiAngle bits) (λ t. t ≡ turns_by (sign_of bits) (magnitude_of bits / 90))
+    (turns_some (IsWholeGdsiiReal bits) (sign_of bits) (magnitude_of bits) (one_real bits) z r real some)
+    (turns_none (IsWholeGdsiiReal bits) (sign_of bits) (magnitude_of bits) (one_real bits) z r real none)
 
-pub turns_value : (bits : ℕ) (z : ℤ) (r : Option ℕ) → IsWholeReal bits z → IfSome r (λ t. IsTurn z t)
+pub turns_value : (bits : ℕ) (z : ℤ) (r : Option ℕ) → IsWholeGdsiiReal bits z → IfSome r (λ t. IsTurn z t)
     → IfSome r (λ t. t ≡ turns_by (sign_of bits) (magnitude_of bits / 90))
 turns_value bits z r real some =
-    value r (IsQuarterAngle bits) (λ t. t ≡ turns_by (sign_of bits) (magnitude_of bits / 90))
-    (turns_some (IsWholeReal bits) (sign_of bits) (magnitude_of bits) (one_real bits) z r real some)
+    value r (IsGdsiiAngle bits) (λ t. t ≡ turns_by (sign_of bits) (magnitude_of bits / 90))
+    (turns_some (IsWholeGdsiiReal bits) (sign_of bits) (magnitude_of bits) (one_real bits) z r real some)

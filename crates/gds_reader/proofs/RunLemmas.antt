@@ -4,13 +4,13 @@ use Rattle.std.specs.Prelude.{◌≢◌}
 use Rattle.std.proofs.lemmas.List.{reverse-append, reverse-reverse, map-append}
 use Rattle.layout_model.specs.declared.pair.Pair.{Pair}
 use Rattle.gds_record.specs.Framing.{IsRecordAt}
-use Rattle.gds_record.specs.Runs.{IsRun, NoneEnds, EndsOnlyLast, IsClosed}
+use Rattle.gds_record.specs.Runs.{AreRecordsEndToEnd, NoRecordEnds, EndsOnlyLast, IsLibraryClosed}
 use Rattle.gds_record.specs.declared.kinds.Kind.{Kind}
 use Rattle.gds_record.specs.declared.kinds.Kind.TheVariants.{EndLib}
 use Rattle.gds_record.specs.declared.records.Record.{Record}
 use Rattle.gds_record.proofs.ForCallers.{record_unique}
 use Rattle.gds_reader.specs.Grammar.{IsStreamOrder, IsBeginning}
-use Rattle.gds_reader.specs.Reading.{kinds_of, IsAllowed, AreAllowed}
+use Rattle.gds_reader.specs.Reading.{kinds_of, IsRecordAllowed, AreRecordsAllowed}
 
 pub reverse_more : (r : Record) (past : List Record) → reverse (r ∷ past) ≡ reverse past ++ r ∷ []
 reverse_more r past = reverse-append (r ∷ []) past
@@ -27,9 +27,9 @@ pub record GoesOn (bytes : List ℕ) (rs : List Record) (to : ℕ) (ss : List Re
   pub rest : List Record
   pub all : ss ≡ rs ++ r ∷ rest
   pub stands : IsRecordAt bytes to r
-  pub run : IsRun bytes r.next rest up
+  pub run : AreRecordsEndToEnd bytes r.next rest up
 
-pub compare_runs : (bytes : List ℕ) (from : ℕ) (rs ss : List Record) (to up : ℕ) → IsRun bytes from rs to → IsRun bytes from ss up
+pub compare_runs : (bytes : List ℕ) (from : ℕ) (rs ss : List Record) (to up : ℕ) → AreRecordsEndToEnd bytes from rs to → AreRecordsEndToEnd bytes from ss up
     → ((rs ≡ ss) × (to ≡ up)) ⊎ GoesOn bytes rs to ss up ⊎ GoesOn bytes ss up rs to
 compare_runs bytes from [] [] to up p q = inl (refl, sym p ∙ q)
 compare_runs bytes from [] (s ∷ ss) to up p q =
@@ -38,7 +38,7 @@ compare_runs bytes from (r ∷ rs) [] to up p q =
     inr (inr (record { r = r; rest = rs; all = refl; stands = subst (λ at. IsRecordAt bytes at r) q p.0; run = p.1 }))
 compare_runs bytes from (r ∷ rs) (s ∷ ss) to up p q =
     let first : r ≡ s = record_unique bytes from r s p.0 q.0 in
-    elim (compare_runs bytes s.next rs ss to up (subst (λ (x : Record). IsRun bytes x.next rs to) first p.1) q.1) [
+    elim (compare_runs bytes s.next rs ss to up (subst (λ (x : Record). AreRecordsEndToEnd bytes x.next rs to) first p.1) q.1) [
       | inl same ↦ inl (let tails : rs ≡ ss = same.0 in cc, same.1)
       | inr (inl on) ↦ inr (inl (record {
         r = on.r;
@@ -58,8 +58,8 @@ compare_runs bytes from (r ∷ rs) (s ∷ ss) to up p q =
 
 -- ---- what goes before
 
-pub allowed_suffix : (bytes : List ℕ) (unit : ℕ) (wanted : List Pair) (xs ys : List Record) → AreAllowed bytes unit wanted (xs ++ ys)
-    → AreAllowed bytes unit wanted ys
+pub allowed_suffix : (bytes : List ℕ) (unit : ℕ) (wanted : List Pair) (xs ys : List Record) → AreRecordsAllowed bytes unit wanted (xs ++ ys)
+    → AreRecordsAllowed bytes unit wanted ys
 allowed_suffix bytes unit wanted [] ys all = all
 allowed_suffix bytes unit wanted (x ∷ xs) ys all = allowed_suffix bytes unit wanted xs ys all.1
 
@@ -72,11 +72,11 @@ reverse_middle rs r ts =
 
 -- the record after the past of a longer reading is allowed there
 pub allowed_on : (bytes : List ℕ) (unit : ℕ) (wanted : List Pair) (past : List Record) (r : Record) (ss rest : List Record)
-    → ss ≡ reverse past ++ r ∷ rest → AreAllowed bytes unit wanted (reverse ss) → IsAllowed bytes unit wanted past r
+    → ss ≡ reverse past ++ r ∷ rest → AreRecordsAllowed bytes unit wanted (reverse ss) → IsRecordAllowed bytes unit wanted past r
 allowed_on bytes unit wanted past r ss rest e all =
     let turned : reverse ss ≡ reverse rest ++ (r ∷ past) =
     ap reverse e ∙ reverse_middle (reverse past) r rest ∙ ap (λ xs. reverse rest ++ (r ∷ xs)) (reverse-reverse past) in
-    (allowed_suffix bytes unit wanted (reverse rest) (r ∷ past) (subst (AreAllowed bytes unit wanted) turned all)).0
+    (allowed_suffix bytes unit wanted (reverse rest) (r ∷ past) (subst (AreRecordsAllowed bytes unit wanted) turned all)).0
 
 kinds_middle : (rs : List Record) (r : Record) (rest : List Record) → kinds_of (rs ++ r ∷ rest) ≡ kinds_of (rs ++ r ∷ []) ++ kinds_of rest
 kinds_middle rs r rest =
@@ -91,15 +91,15 @@ begins_on past r ss rest e b =
 
 -- ---- ends of the library
 
-pub none_ends_at : (rs : List Record) (r : Record) (rest : List Record) → NoneEnds (rs ++ r ∷ rest) → r.kind ≢ EndLib
+pub none_ends_at : (rs : List Record) (r : Record) (rest : List Record) → NoRecordEnds (rs ++ r ∷ rest) → r.kind ≢ EndLib
 none_ends_at [] r rest none = none.0
 none_ends_at (s ∷ rs) r rest none = none_ends_at rs r rest none.1
 
-pub none_ends_front : (rs ss : List Record) → NoneEnds (rs ++ ss) → NoneEnds rs
+pub none_ends_front : (rs ss : List Record) → NoRecordEnds (rs ++ ss) → NoRecordEnds rs
 none_ends_front [] ss none = tt
 none_ends_front (r ∷ rs) ss none = (none.0, none_ends_front rs ss none.1)
 
-pub not_closed : (rs : List Record) → NoneEnds rs → IsClosed rs → ⊥
+pub not_closed : (rs : List Record) → NoRecordEnds rs → IsLibraryClosed rs → ⊥
 not_closed [] none closed = closed
 not_closed (r ∷ []) none closed = none.0 closed
 not_closed (r ∷ s ∷ rs) none closed = not_closed (s ∷ rs) none.1 closed

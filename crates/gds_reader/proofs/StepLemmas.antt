@@ -13,7 +13,7 @@ use Rattle.std.proofs.lemmas.Int.{ints}
 use Rattle.half_grid.specs.Halves.{twice, is_even}
 use Rattle.half_grid.specs.declared.plane.Point.{Point}
 use Rattle.gds_reader.specs.Meaning.{quotient, step_of}
-use Rattle.gds_reader.specs.Steppings.{IsNear, IsEvenPart, IsPartOf, IsStepping}
+use Rattle.gds_reader.specs.Steppings.{IsNearPlace, IsEvenPart, IsPartOf, IsStepping}
 use Rattle.gds_reader.specs.Values.{Divides}
 
 -- an exact division by twice the count
@@ -88,7 +88,7 @@ part_y count from to d = record { sum = d.1.1.y; half = d.1.2.0.y; whole = d.1.2
 
 -- ---- the places of an array
 
-less_far : (a n : ℕ) (s w : ℤ) → a < n → pos n *ℤ s ≡ w → IsNear w → IsNear (pos a *ℤ s)
+less_far : (a n : ℕ) (s w : ℤ) → a < n → pos n *ℤ s ≡ w → IsNearPlace w → IsNearPlace (pos a *ℤ s)
 less_far a n (pos m) w h e near =
     let le : a * m ≤ n * m = mul-le-mul_right m (omega arith) in
     record { low = omega (arith, ints); high = omega (arith, ints, le, e, near.high) }
@@ -114,12 +114,12 @@ even_sum a b s t h g e f =
     ap (λ x. is_even (x +ℤ (pos b *ℤ t))) first ∙ ap (λ x. is_even (twice (pos a *ℤ h) +ℤ x)) second
     ∙ ap is_even (twice_sum (pos a *ℤ h) (pos b *ℤ g)) ∙ even_twice ((pos a *ℤ h) +ℤ (pos b *ℤ g))
 
-way_near : (a b : ℤ) → neg_ℤ (pos (2 ^ 32)) ≤ℤ a → a ≤ℤ pos (2 ^ 32) → neg_ℤ (pos (2 ^ 32)) ≤ℤ b → b ≤ℤ pos (2 ^ 32) → IsNear (b -ℤ a)
+way_near : (a b : ℤ) → neg_ℤ (pos (2 ^ 32)) ≤ℤ a → a ≤ℤ pos (2 ^ 32) → neg_ℤ (pos (2 ^ 32)) ≤ℤ b → b ≤ℤ pos (2 ^ 32) → IsNearPlace (b -ℤ a)
 way_near a b p q r s = record { low = omega (arith, ints); high = omega (arith, ints) }
 
 -- one place of an array
 place_near : (a b columns rows : ℕ) (o r u s t : Point) → IsFilePoint o → IsFilePoint r → IsFilePoint u → IsStepping columns o r s → IsStepping rows o u t
-    → a < columns → b < rows → IsNear (pos a *ℤ s.x) × IsNear (pos b *ℤ t.x) × IsNear (pos a *ℤ s.y) × IsNear (pos b *ℤ t.y)
+    → a < columns → b < rows → IsNearPlace (pos a *ℤ s.x) × IsNearPlace (pos b *ℤ t.x) × IsNearPlace (pos a *ℤ s.y) × IsNearPlace (pos b *ℤ t.y)
 place_near a b columns rows o r u s t fo fr fu ps pt la lb = (
   less_far a columns s.x (r.x -ℤ o.x) la ps.step_is.x (way_near o.x r.x fo.near.x_low fo.near.x_high fr.near.x_low fr.near.x_high),
   less_far b rows t.x (u.x -ℤ o.x) lb pt.step_is.x (way_near o.x u.x fo.near.x_low fo.near.x_high fu.near.x_low fu.near.x_high),
@@ -127,7 +127,7 @@ place_near a b columns rows o r u s t fo fr fu ps pt la lb = (
   less_far b rows t.y (u.y -ℤ o.y) lb pt.step_is.y (way_near o.y u.y fo.near.y_low fo.near.y_high fu.near.y_low fu.near.y_high),
 )
 
-sum_reach : (x y : ℤ) → IsNear x → IsNear y → IsWithinReach (x +ℤ y)
+sum_reach : (x y : ℤ) → IsNearPlace x → IsNearPlace y → IsWithinReach (x +ℤ y)
 sum_reach x y p q = record { low = omega (arith, ints, p.low, q.low); high = omega (arith, ints, p.high, q.high) }
 
 pub grid_fits : (columns rows : ℕ) (o r u s t : Point) → columns ≤ 65535 → rows ≤ 65535 → IsFilePoint o → IsFilePoint r → IsFilePoint u

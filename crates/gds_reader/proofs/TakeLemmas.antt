@@ -9,7 +9,7 @@ use Rattle.layout_model.specs.Layouts.{IsShapeOnGrid, IsPlacementOnGrid}
 use Rattle.layout_model.specs.Names.{IsName}
 use Rattle.layout_model.specs.declared.pair.Pair.{Pair}
 use Rattle.gds_record.specs.declared.kinds.Kind.{Kind}
-use Rattle.gds_record.specs.Reals.{Agrees}
+use Rattle.gds_record.specs.Reals.{AgreesWithUnit}
 use Rattle.gds_record.specs.declared.kinds.Kind.TheVariants.{EndStr, StrName, Units, Xy}
 use Rattle.gds_record.specs.declared.records.Record.{Record}
 use Rattle.gds_reader.specs.declared.elements.Element.{Element}
@@ -17,7 +17,7 @@ use Rattle.gds_reader.specs.declared.order.Place.{Place}
 use Rattle.gds_reader.specs.declared.reading.Structure.{Structure}
 use Rattle.gds_reader.specs.declared.refusing.GdsBad.{GdsBad}
 use Rattle.gds_reader.specs.Past.{same_kind, structure_record, given_in_structure}
-use Rattle.gds_reader.specs.Values.{name_in, points_in, Keeps, KeepsRules}
+use Rattle.gds_reader.specs.Values.{name_in, points_in, KeepsGdsiiRule, KeepsGdsiiRules}
 use Rattle.gds_reader.specs.Meaning.{wanted_at, shapes_at, placements_at}
 use Rattle.gds_reader.specs.Elements.{IsHeld, IsElementOf, shapes_by, KeepsBy, placements_kept}
 use Rattle.gds_reader.specs.Readers.{IsStructureOf, next_after, place_behind, IsRefused, IsBadXy}
@@ -57,13 +57,13 @@ taken_structure bytes wanted past r e drawn (Ok x) old new kind f d s named shap
 
 pub taken_keeps : {T : Type 0} (bytes : List ℕ) (wanted : List Pair) (past : List Record) (r : Record) (e : Element) (drawn : Option Bool)
     (result : Result T (Refusal GdsBad)) → r.kind ≡ Xy → IsElementOf bytes past e → drawn ≡ wanted_at bytes wanted past r
-    → OnOk result ((rule : ℕ) → KeepsBy drawn e (points_in bytes r) rule) → OnOk result (r.kind ≡ Xy → KeepsRules bytes wanted past r)
+    → OnOk result ((rule : ℕ) → KeepsBy drawn e (points_in bytes r) rule) → OnOk result (r.kind ≡ Xy → KeepsGdsiiRules bytes wanted past r)
 taken_keeps bytes wanted past r e drawn (Err bad) kind f d kept = tt
 taken_keeps bytes wanted past r e drawn (Ok x) kind f d kept = λ again rule. keeps_of_xy bytes wanted past r e drawn rule kind f d (kept rule)
 
 pub taken_refused : {T : Type 0} (bytes : List ℕ) (wanted : List Pair) (past : List Record) (r : Record) (e : Element) (drawn : Option Bool)
     (result : Result T (Refusal GdsBad)) (at : ℕ) → r.kind ≡ Xy → IsElementOf bytes past e → drawn ≡ wanted_at bytes wanted past r
-    → IfFault result (IsRefusedBy (KeepsBy drawn e (points_in bytes r)) at) → IfFault result (IsRefusedBy (Keeps bytes wanted past r) at)
+    → IfFault result (IsRefusedBy (KeepsBy drawn e (points_in bytes r)) at) → IfFault result (IsRefusedBy (KeepsGdsiiRule bytes wanted past r) at)
 taken_refused bytes wanted past r e drawn (Ok x) at kind f d refused = tt
 taken_refused bytes wanted past r e drawn (Err (Fault bad)) at kind f d (rule, is, low) =
     (rule, is, lowest_of_xy bytes wanted past r e drawn rule kind f d low)
@@ -88,7 +88,7 @@ next_is behind place following r e f = ap (λ p. next_after p r) e ∙ f
 
 -- what may still be refused of a record whose kind, values, unit and name were looked at is an XY for its points
 pub refused_xy : (bytes : List ℕ) (unit : ℕ) (wanted : List Pair) (past : List Record) (r : Record) (at : ℕ) → IsSome (next_after (place_behind past) r)
-    → (r.kind ≢ Xy → KeepsRules bytes wanted past r) → (r.kind ≡ Units → Agrees (unit_in bytes r) unit)
+    → (r.kind ≢ Xy → KeepsGdsiiRules bytes wanted past r) → (r.kind ≡ Units → AgreesWithUnit (unit_in bytes r) unit)
     → (r.kind ≡ StrName → place_of_name bytes (name_in bytes r) past ≡ None)
     → (bad : GdsBad) → IsRefused bytes unit wanted past r at bad → IsBadXy past r
 refused_xy bytes unit wanted past r at some rules agrees new bad (inl order) =

@@ -1,5 +1,5 @@
 -- The brush of a path.
-use Rattle.layout_model.specs.PathBounds.{IsNear}
+use Rattle.layout_model.specs.PathBounds.{IsNearOnPath}
 use Rattle.gds_reader.specs.declared.drawing.Brush.{Brush}
 use Rattle.layout_model.specs.declared.paths.PathBad.{PathBad}
 use Rattle.layout_model.specs.declared.paths.PathBad.TheVariants as paths
@@ -16,9 +16,9 @@ brush_kept e = record { half = half_width_kept e; begin = begin_kept e; end = en
 
 pub record IsNearBrush (brush : Brush) : Type 0 where
   pub low : pos 0 ≤ℤ brush.half
-  pub half : IsNear brush.half
-  pub begin : IsNear brush.begin
-  pub end : IsNear brush.end
+  pub half : IsNearOnPath brush.half
+  pub begin : IsNearOnPath brush.begin
+  pub end : IsNearOnPath brush.end
 
 -- a path that can't be drawn breaks its rule, at this offset
 abbrev pub refusal_by : PathBad → ℕ → Refusal GdsBad

@@ -6,21 +6,21 @@ use Rattle.layout_model.specs.Layouts.{IsWithin}
 use Rattle.layout_model.specs.Names.{IsName}
 use Rattle.layout_model.specs.declared.shapes.Shape.{Shape}
 use Rattle.layout_model.specs.declared.cells.Placement.{Placement}
-use Rattle.gds_record.specs.Heads.{content_of, IsAllowed}
+use Rattle.gds_record.specs.Heads.{content_of, IsLengthAllowed}
 use Rattle.gds_record.specs.declared.kinds.Kind.{Kind}
 use Rattle.gds_record.specs.declared.kinds.Kind.TheVariants.{Boundary, Path, Sref, Aref, Width, Sname, ColRow, PathType, BgnExtn, EndExtn}
 use Rattle.gds_record.specs.declared.records.Record.{Record}
 use Rattle.gds_reader.specs.declared.elements.Element.{Element}
 use Rattle.gds_reader.specs.Past.{element_kind, own_record}
 use Rattle.gds_reader.specs.Values.{name_in, number2_in, signed4_in, pair_of, columns_in, rows_in, extension}
-use Rattle.gds_reader.specs.Values.{IsReference, KeepsSref, KeepsAref, KeepsBoundary, KeepsPath}
+use Rattle.gds_reader.specs.Values.{IsReference, KeepsSref, KeepsAref, KeepsBoundary, KeepsGdsiiPath}
 use Rattle.gds_reader.specs.Meaning.{orient_of, origin, boundary_shape, path_shapes_of, first_of, array_places, is_drawn}
 
 -- the record's content lies within the bytes and has a length of its kind
 pub record IsHeld (bytes : List ℕ) (r : Record) : Type 0 where
   pub ordered : r.first ≤ r.next
   pub within : r.next ≤ length bytes
-  pub content : IsAllowed (content_of r.kind) (r.next - r.first)
+  pub content : IsLengthAllowed (content_of r.kind) (r.next - r.first)
   pub short : r.next - r.first ≤ 65531
 
 -- what is kept of the element that the last record is in
@@ -77,7 +77,7 @@ path_kept e points =
     path_shapes_of e.pair (int_lt e.width (pos 0)) (half_width_kept e) (begin_kept e) (end_kept e) points
 
 abbrev pub KeepsPathOf : Element → List Point → ℕ → Type 0
-KeepsPathOf e points rule = KeepsPath (half_width_kept e) (begin_kept e) (end_kept e) points rule
+KeepsPathOf e points rule = KeepsGdsiiPath (half_width_kept e) (begin_kept e) (end_kept e) points rule
 
 -- the shapes of an element on a wanted pair
 abbrev pub shapes_kept : Option Kind → Element → List Point → List Shape

@@ -1,9 +1,9 @@
 -- ---- what is promised, in reading order
-pub mod Grammar
-pub mod Past
-pub mod Values
-pub mod Meaning
 pub mod Reading
+pub mod Grammar
+pub mod Meaning
+pub mod Values
+pub mod Past
 -- ---- what is kept inside
 pub mod Steps
 pub mod Elements

@@ -5,8 +5,8 @@ use Rattle.layout_model.specs.Pairs.{AreSamePairs}
 use Rattle.layout_model.specs.Layouts.{IsShapeOnGrid, IsPlacementOnGrid, IsCellOnGrid}
 use Rattle.layout_model.specs.Images.{IsOrient}
 use Rattle.layout_model.specs.declared.pair.Pair.{Pair}
-use Rattle.gds_record.specs.Reals.{Agrees}
-use Rattle.gds_record.specs.Runs.{IsRun, NoneEnds}
+use Rattle.gds_record.specs.Reals.{AgreesWithUnit}
+use Rattle.gds_record.specs.Runs.{AreRecordsEndToEnd, NoRecordEnds}
 use Rattle.gds_record.specs.declared.kinds.Kind.TheVariants.{StrName, Units, Xy}
 use Rattle.gds_record.specs.declared.records.Record.{Record}
 use Rattle.gds_reader.specs.declared.order.Place.{Place}
@@ -19,11 +19,11 @@ use Rattle.layout_model.specs.declared.cells.Cell.{Cell}
 use Rattle.gds_reader.specs.declared.refusing.GdsBad.{GdsBad}
 use Rattle.gds_reader.specs.declared.refusing.GdsBad.TheVariants as faults
 use Rattle.gds_reader.specs.Past.{structure_record, given_in_structure}
-use Rattle.gds_reader.specs.Values.{name_in, KeepsRules, IsLowestBroken}
+use Rattle.gds_reader.specs.Values.{name_in, KeepsGdsiiRules, IsLowestBrokenByRecord}
 use Rattle.gds_reader.specs.Meaning.{shapes_at, placements_at, cells_of, counts_of}
 use Rattle.gds_reader.specs.Elements.{IsHeld, IsElementOf}
 use Rattle.gds_reader.specs.Names.{AreNamesOf, place_of as place_of_name}
-use Rattle.gds_reader.specs.Reading.{AreAllowed, unit_in}
+use Rattle.gds_reader.specs.Reading.{AreRecordsAllowed, unit_in}
 use Rattle.gds_reader.specs.Steps.{next_place}
 
 abbrev pub next_after : Option Place → Record → Option Place
@@ -69,19 +69,19 @@ pub record BreaksOrder (past : List Record) (r : Record) (at : ℕ) (bad : GdsBa
 pub record BreaksRule (bytes : List ℕ) (wanted : List Pair) (past : List Record) (r : Record) (at : ℕ) (bad : GdsBad) : Type 0 where
   pub some : IsSome (next_after (place_behind past) r)
   pub rule : ℕ
-  pub broken : IsLowestBroken bytes wanted past r rule
+  pub broken : IsLowestBrokenByRecord bytes wanted past r rule
   pub bad_is : bad ≡ faults.Value at rule
 
 pub record BreaksUnit (bytes : List ℕ) (unit : ℕ) (wanted : List Pair) (past : List Record) (r : Record) (bad : GdsBad) : Type 0 where
   pub some : IsSome (next_after (place_behind past) r)
-  pub rules : KeepsRules bytes wanted past r
+  pub rules : KeepsGdsiiRules bytes wanted past r
   pub kind : r.kind ≡ Units
-  pub disagrees : ¬ Agrees (unit_in bytes r) unit
+  pub disagrees : ¬ AgreesWithUnit (unit_in bytes r) unit
   pub bad_is : bad ≡ faults.Unit (unit_in bytes r)
 
 pub record BreaksName (bytes : List ℕ) (wanted : List Pair) (past : List Record) (r : Record) (at : ℕ) (bad : GdsBad) : Type 0 where
   pub some : IsSome (next_after (place_behind past) r)
-  pub rules : KeepsRules bytes wanted past r
+  pub rules : KeepsGdsiiRules bytes wanted past r
   pub kind : r.kind ≡ StrName
   pub first : ℕ
   pub found : place_of_name bytes (name_in bytes r) past ≡ Some first
@@ -98,8 +98,8 @@ IsBadXy past r = (r.kind ≡ Xy) × IsSome (next_after (place_behind past) r)
 
 -- nothing is wrong with the record
 pub record IsTaken (bytes : List ℕ) (unit : ℕ) (wanted : List Pair) (past : List Record) (r : Record) : Type 0 where
-  pub rules : KeepsRules bytes wanted past r
-  pub unit_agrees : r.kind ≡ Units → Agrees (unit_in bytes r) unit
+  pub rules : KeepsGdsiiRules bytes wanted past r
+  pub unit_agrees : r.kind ≡ Units → AgreesWithUnit (unit_in bytes r) unit
   pub new_name : r.kind ≡ StrName → place_of_name bytes (name_in bytes r) past ≡ None
 
 -- ---- where the reader stands
@@ -107,11 +107,11 @@ pub record IsTaken (bytes : List ℕ) (unit : ℕ) (wanted : List Pair) (past : 
 -- the records up to this offset have been taken
 pub record IsStanding (bytes : List ℕ) (unit : ℕ) (sorted : List Pair) (at : ℕ) (reader : Reader) : Type 0 where
   pub past : List Record
-  pub run : IsRun bytes 0 (reverse past) at
-  pub goes_on : NoneEnds (reverse past)
+  pub run : AreRecordsEndToEnd bytes 0 (reverse past) at
+  pub goes_on : NoRecordEnds (reverse past)
   pub few : 4 * length past ≤ at
   pub within : at ≤ length bytes
-  pub allowed : (wanted : List Pair) → AreSamePairs wanted sorted → AreAllowed bytes unit wanted past
+  pub allowed : (wanted : List Pair) → AreSamePairs wanted sorted → AreRecordsAllowed bytes unit wanted past
   pub reader_is : (wanted : List Pair) → AreSamePairs wanted sorted → IsReaderOf bytes wanted past reader
 
 -- the first byte from an offset on that isn't 0

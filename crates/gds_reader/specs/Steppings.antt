@@ -2,10 +2,10 @@
 use Rattle.std.specs.Prelude.{◌≡◌, ◌≤◌, ◌^◌, ◌*◌, ℕ, ℤ, pos, neg_ℤ, ◌*ℤ◌, ◌≤ℤ◌}
 use Rattle.half_grid.specs.Halves.{twice}
 use Rattle.half_grid.specs.declared.plane.Point.{Point}
-use Rattle.gds_reader.specs.Values.{IsStep, IsWhole}
+use Rattle.gds_reader.specs.Values.{IsStep, IsWholeUnits}
 
 -- at most 2^33 from 0
-pub record IsNear (z : ℤ) : Type 0 where
+pub record IsNearPlace (z : ℤ) : Type 0 where
   pub low : neg_ℤ (pos (2 ^ 33)) ≤ℤ z
   pub high : z ≤ℤ pos (2 ^ 33)
 
@@ -25,4 +25,4 @@ pub record IsPartOf (count : ℕ) (way step : ℤ) : Type 0 where
 pub record IsStepping (count : ℕ) (from to step : Point) : Type 0 where
   pub some : 1 ≤ count
   pub step_is : IsStep count from to step
-  pub whole : IsWhole step
+  pub whole : IsWholeUnits step

@@ -13,7 +13,7 @@ use Rattle.layout_model.specs.Paths.{IsDrawable}
 use Rattle.layout_model.specs.Turns.{turns_by, IsFactorBy, IsQuarterAngleBy}
 use Rattle.layout_model.specs.declared.pair.Pair.{Pair}
 use Rattle.gds_record.specs.Numbers.{number_at, signed_at}
-use Rattle.gds_record.specs.Reals.{sign_of, exponent_of, fraction_of, IsWholeReal}
+use Rattle.gds_record.specs.Reals.{sign_of, exponent_of, fraction_of, IsWholeGdsiiReal}
 use Rattle.gds_record.specs.declared.kinds.Kind.{Kind}
 use Rattle.gds_record.specs.declared.kinds.Kind.TheVariants.{StrName, Boundary, Path, Sref, Aref, Layer, DataType}
 use Rattle.gds_record.specs.declared.kinds.Kind.TheVariants.{Width, Xy, Sname, ColRow, Strans, Mag, Angle, PathType}
@@ -46,8 +46,8 @@ pair_of bytes past = record {
 abbrev pub is_wanted : List ℕ → List Pair → List Record → Bool
 is_wanted bytes wanted past = list_any (same_pair (pair_of bytes past)) wanted
 
-abbrev pub IsWanted : List ℕ → List Pair → List Record → Type 0
-IsWanted bytes wanted past = IsTrue (is_wanted bytes wanted past)
+abbrev pub IsPairWanted : List ℕ → List Pair → List Record → Type 0
+IsPairWanted bytes wanted past = IsTrue (is_wanted bytes wanted past)
 
 -- ---- names
 
@@ -114,12 +114,12 @@ turns_in bytes (Some r) =
     turns_by (sign_of bits) (magnitude_of bits / 90)
 
 -- a whole number from 1 to 16
-abbrev pub IsFactor : ℕ → Type 0
-IsFactor bits = IsFactorBy (IsWholeReal bits)
+abbrev pub IsGdsiiFactor : ℕ → Type 0
+IsGdsiiFactor bits = IsFactorBy (IsWholeGdsiiReal bits)
 
 -- a multiple of 90 from -360 to 360
-abbrev pub IsQuarterAngle : ℕ → Type 0
-IsQuarterAngle bits = IsQuarterAngleBy (IsWholeReal bits)
+abbrev pub IsGdsiiAngle : ℕ → Type 0
+IsGdsiiAngle bits = IsQuarterAngleBy (IsWholeGdsiiReal bits)
 
 -- ---- arrays
 
@@ -147,12 +147,12 @@ pub record IsStep (count : ℕ) (from to step : Point) : Type 0 where
   pub y : pos count *ℤ step.y ≡ to.y -ℤ from.y
 
 -- a whole number of units of the file
-abbrev pub IsWhole : Point → Type 0
-IsWhole p = (half : Point) × (p.x ≡ twice half.x) × (p.y ≡ twice half.y)
+abbrev pub IsWholeUnits : Point → Type 0
+IsWholeUnits p = (half : Point) × (p.x ≡ twice half.x) × (p.y ≡ twice half.y)
 
 -- the move from one point to another is so many steps of whole units; there are some
 abbrev pub Divides : ℕ → Point → Point → Type 0
-Divides count from to = (1 ≤ count) × ((step : Point) × IsStep count from to step × IsWhole step)
+Divides count from to = (1 ≤ count) × ((step : Point) × IsStep count from to step × IsWholeUnits step)
 
 -- both moves of an array divide exactly
 abbrev pub HasSteps : ℕ → ℕ → List Point → Type 0
@@ -180,16 +180,16 @@ pub record KeepsBoundary (points : List Point) (rule : ℕ) : Type 0 where
   pub edges : rule ≡ 12 → HasGridEdges points
 
 -- that of a PATH: one without width can be anywhere
-abbrev pub KeepsPath : ℤ → ℤ → ℤ → List Point → ℕ → Type 0
-KeepsPath half_width begin end points rule = rule ≡ 14 → half_width ≢ pos 0 → IsDrawable points half_width begin end
+abbrev pub KeepsGdsiiPath : ℤ → ℤ → ℤ → List Point → ℕ → Type 0
+KeepsGdsiiPath half_width begin end points rule = rule ≡ 14 → half_width ≢ pos 0 → IsDrawable points half_width begin end
 
 -- that of an element of this kind; shapes must keep rules on the wanted pairs alone
 abbrev pub KeepsXy : List ℕ → List Pair → List Record → List Point → Option Kind → ℕ → Type 0
 KeepsXy bytes wanted past points (Some Sref) rule = KeepsSref points rule
 KeepsXy bytes wanted past points (Some Aref) rule = KeepsAref (columns_of bytes past) (rows_of bytes past) points rule
-KeepsXy bytes wanted past points (Some Boundary) rule = IsWanted bytes wanted past → KeepsBoundary points rule
-KeepsXy bytes wanted past points (Some Path) rule = IsWanted bytes wanted past
-    → KeepsPath (half_width_of bytes past) (extension_of BgnExtn bytes past) (extension_of EndExtn bytes past) points rule
+KeepsXy bytes wanted past points (Some Boundary) rule = IsPairWanted bytes wanted past → KeepsBoundary points rule
+KeepsXy bytes wanted past points (Some Path) rule = IsPairWanted bytes wanted past
+    → KeepsGdsiiPath (half_width_of bytes past) (extension_of BgnExtn bytes past) (extension_of EndExtn bytes past) points rule
 KeepsXy bytes wanted past points _ rule = Unit {0}
 
 -- a record of this kind, after its past, keeps the rule
@@ -198,21 +198,21 @@ KeepsAs Format bytes wanted past r rule = rule ≡ 1 → number_at 2 bytes r.fir
 KeepsAs StrName bytes wanted past r rule = rule ≡ 2 → IsName (name_in bytes r)
 KeepsAs Sname bytes wanted past r rule = rule ≡ 2 → IsName (name_in bytes r)
 KeepsAs Strans bytes wanted past r rule = rule ≡ 3 → IsReference past → bit_and (number_at 2 bytes r.first) 0x0006 ≡ 0
-KeepsAs Mag bytes wanted past r rule = rule ≡ 4 → IsReference past → IsFactor (number_at 8 bytes r.first)
-KeepsAs Angle bytes wanted past r rule = rule ≡ 5 → IsReference past → IsQuarterAngle (number_at 8 bytes r.first)
+KeepsAs Mag bytes wanted past r rule = rule ≡ 4 → IsReference past → IsGdsiiFactor (number_at 8 bytes r.first)
+KeepsAs Angle bytes wanted past r rule = rule ≡ 5 → IsReference past → IsGdsiiAngle (number_at 8 bytes r.first)
 KeepsAs ColRow bytes wanted past r rule =
     rule ≡ 6 → IsCount (number_at 2 bytes r.first) × IsCount (number_at 2 bytes (r.first + 2))
-KeepsAs PathType bytes wanted past r rule = rule ≡ 13 → element_kind past ≡ Some Path → IsWanted bytes wanted past
+KeepsAs PathType bytes wanted past r rule = rule ≡ 13 → element_kind past ≡ Some Path → IsPairWanted bytes wanted past
     → (number_at 2 bytes r.first ≡ 0) ⊎ (number_at 2 bytes r.first ≡ 2) ⊎ (number_at 2 bytes r.first ≡ 4)
 KeepsAs Xy bytes wanted past r rule = KeepsXy bytes wanted past (points_in bytes r) (element_kind past) rule
 KeepsAs _ bytes wanted past r rule = Unit {0}
 
-abbrev pub Keeps : List ℕ → List Pair → List Record → Record → ℕ → Type 0
-Keeps bytes wanted past r rule = KeepsAs r.kind bytes wanted past r rule
+abbrev pub KeepsGdsiiRule : List ℕ → List Pair → List Record → Record → ℕ → Type 0
+KeepsGdsiiRule bytes wanted past r rule = KeepsAs r.kind bytes wanted past r rule
 
 -- the record keeps all rules
-abbrev pub KeepsRules : List ℕ → List Pair → List Record → Record → Type 0
-KeepsRules bytes wanted past r = (rule : ℕ) → Keeps bytes wanted past r rule
+abbrev pub KeepsGdsiiRules : List ℕ → List Pair → List Record → Record → Type 0
+KeepsGdsiiRules bytes wanted past r = (rule : ℕ) → KeepsGdsiiRule bytes wanted past r rule
 
 -- this rule isn't kept, and those with lower numbers are
 pub record IsLowest (Kept : ℕ → Type 0) (rule : ℕ) : Type 0 where
@@ -220,5 +220,5 @@ pub record IsLowest (Kept : ℕ → Type 0) (rule : ℕ) : Type 0 where
   pub lower : (other : ℕ) → other < rule → Kept other
 
 -- the lowest rule that the record breaks
-abbrev pub IsLowestBroken : List ℕ → List Pair → List Record → Record → ℕ → Type 0
-IsLowestBroken bytes wanted past r rule = IsLowest (Keeps bytes wanted past r) rule
+abbrev pub IsLowestBrokenByRecord : List ℕ → List Pair → List Record → Record → ℕ → Type 0
+IsLowestBrokenByRecord bytes wanted past r rule = IsLowest (KeepsGdsiiRule bytes wanted past r) rule

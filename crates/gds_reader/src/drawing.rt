@@ -6,11 +6,11 @@ ghost use Rattle.geo_stream.specs.declared.refusal.Refusal.TheVariants.{NoMemory
 ghost use Rattle.half_grid.specs.Outlines.{IsClosed};
 ghost use Rattle.layout_model.specs.Layouts.{IsShapeOnGrid};
 ghost use Rattle.gds_reader.specs.Brushes.{brush_kept, refusal_by, IsNearBrush};
-ghost use Rattle.layout_model.specs.PathBounds.{IsNear};
+ghost use Rattle.layout_model.specs.PathBounds.{IsNearOnPath};
 ghost use Rattle.gds_reader.specs.Elements.{IsFilePoint, KeepsPathOf, KeepsOf, path_kept, shapes_kept};
 ghost use Rattle.gds_reader.specs.Meaning.{boundary_shape, path_shapes_of, is_drawn};
 ghost use Rattle.gds_reader.specs.Refused.{IsRefusedBy, BreaksNone};
-ghost use Rattle.gds_reader.specs.Values.{KeepsBoundary, KeepsPath, extension};
+ghost use Rattle.gds_reader.specs.Values.{KeepsBoundary, KeepsGdsiiPath, extension};
 
 use crate::elements::Element;
 use crate::refusing::GdsBad;
@@ -82,7 +82,7 @@ impl Element {
     fn half_width(&self) -> i64
         ensures width { result ≡ pos (unsigned_abs self.now.width) }
         ensures low { pos 0 ≤ℤ result }
-        ensures near { IsNear result }
+        ensures near { IsNearOnPath result }
     {
         i64::from(self.width).abs()
     }
@@ -90,7 +90,7 @@ impl Element {
     // How far a path goes beyond a point at its end, where this extension is written.
     fn extension(&self, written: i32) -> i64
         ensures extension { result ≡ extension self.now.path_type (pos (unsigned_abs self.now.width)) written }
-        ensures near { IsNear result }
+        ensures near { IsNearOnPath result }
     {
         match self.path_type {
             2 => self.half_width(),
@@ -136,9 +136,9 @@ fn shapes_of_path(
     ensures shapes { IfOk result (λ shapes. shapes.items
         ≡ path_shapes_of pair fixed brush.half brush.begin brush.end points.now) }
     ensures grid { IfOk result (λ shapes. All IsShapeOnGrid shapes.items) }
-    ensures kept { IfOk result (λ _. (rule : ℕ) → KeepsPath brush.half brush.begin brush.end points.now rule) }
-    ensures broken { IfFault result (IsRefusedBy (KeepsPath brush.half brush.begin brush.end points.now) at) }
-    ensures memory { result ≡ Err Wanting → (rule : ℕ) → KeepsPath brush.half brush.begin brush.end points.now rule }
+    ensures kept { IfOk result (λ _. (rule : ℕ) → KeepsGdsiiPath brush.half brush.begin brush.end points.now rule) }
+    ensures broken { IfFault result (IsRefusedBy (KeepsGdsiiPath brush.half brush.begin brush.end points.now) at) }
+    ensures memory { result ≡ Err Wanting → (rule : ℕ) → KeepsGdsiiPath brush.half brush.begin brush.end points.now rule }
 {
     let Brush { half, begin, end } = brush;
     let offsets = Offsets::list(alloc, &[ORIGIN])?;

@@ -4,7 +4,7 @@ ghost use Rattle.gds_record.specs.Reals.{sign_of};
 ghost use Rattle.gds_record.specs.declared.kinds.Kind.TheVariants.{Sref, Aref};
 ghost use Rattle.gds_record.specs.declared.records.Record.{Record as ARecord};
 ghost use Rattle.gds_reader.specs.Elements.{IsHeld, IsElementOf, new_element};
-ghost use Rattle.gds_reader.specs.Values.{magnitude_of, IsFactor, IsQuarterAngle, KeepsRules};
+ghost use Rattle.gds_reader.specs.Values.{magnitude_of, IsGdsiiFactor, IsGdsiiAngle, KeepsGdsiiRules};
 ghost use Rattle.layout_model.specs.Images.{IsOrient};
 ghost use Rattle.layout_model.specs.Turns.{turns_by};
 ghost use Rattle.layout_model.specs.declared.pair.Pair.{Pair as APair};
@@ -34,7 +34,7 @@ pub(crate) struct Element {
 
 /// The factor of a MAG: a whole number from 1 to 16.
 pub(crate) fn factor_of(bits: u64) -> Option<u8>
-    ensures some { IsSome result ↔ IsFactor bits }
+    ensures some { IsSome result ↔ IsGdsiiFactor bits }
     ensures value { IfSome result (λ n. n ≡ magnitude_of bits) }
     ensures bounds { IfSome result (λ n. (1 ≤ n) × (n ≤ 16)) }
 {
@@ -46,7 +46,7 @@ pub(crate) fn factor_of(bits: u64) -> Option<u8>
 
 /// The quarter turns of an ANGLE: those of a multiple of 90 degrees from -360 to 360.
 pub(crate) fn quarter_turns(bits: u64) -> Option<u8>
-    ensures some { IsSome result ↔ IsQuarterAngle bits }
+    ensures some { IsSome result ↔ IsGdsiiAngle bits }
     ensures value { IfSome result (λ turns. turns ≡ turns_by (sign_of bits) (magnitude_of bits / 90)) }
     ensures few { IfSome result (λ turns. turns < 4) }
 {
@@ -98,7 +98,7 @@ impl Element {
     pub(crate) fn take(&mut self, bytes: &[u8], current: Record)
         requires { IsHeld bytes.now current }
         ensures element { (past : List ARecord) (wanted : List APair) → IsElementOf bytes.now past self.old
-            → KeepsRules bytes.now wanted past current → IsElementOf bytes.now (current ∷ past) self.new }
+            → KeepsGdsiiRules bytes.now wanted past current → IsElementOf bytes.now (current ∷ past) self.new }
         ensures orient { IsOrient self.old.orient → IsOrient self.new.orient }
     {
         let first = current.first;

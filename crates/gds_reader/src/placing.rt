@@ -11,7 +11,7 @@ ghost use Rattle.gds_record.specs.declared.kinds.Kind.TheVariants.{Sref, Aref};
 ghost use Rattle.gds_reader.specs.Elements.{IsHeld, IsFilePoint, KeepsOf, place_kept, placements_kept};
 ghost use Rattle.gds_reader.specs.Meaning.{first_of, step_of, array_places as the_places};
 ghost use Rattle.gds_reader.specs.Refused.{IsRefusedBy, BreaksNone};
-ghost use Rattle.gds_reader.specs.Steppings.{IsNear, IsEvenPart, IsPartOf, IsStepping};
+ghost use Rattle.gds_reader.specs.Steppings.{IsNearPlace, IsEvenPart, IsPartOf, IsStepping};
 ghost use Rattle.gds_reader.specs.Values.{Divides, KeepsAref, name_in};
 
 use crate::drawing::ORIGIN;
@@ -51,7 +51,7 @@ fn with_sign(size: u64, is_negative: bool) -> i64
 
 // The part of a way that is one of so many steps, where these are whole units of the file.
 fn part(way: i64, count: u16) -> Option<i64>
-    requires way { IsNear way }
+    requires way { IsNearPlace way }
     requires some { 1 ≤ count }
     ensures part { IfSome result (λ step. IsPartOf count way step) }
     ensures none { IfNone result ((step : ℤ) → ¬ IsPartOf count way step) }
@@ -67,8 +67,8 @@ fn way_between(from: Point, to: Point) -> Point
     requires to { IsFilePoint to }
     ensures x { result.x ≡ to.x -ℤ from.x }
     ensures y { result.y ≡ to.y -ℤ from.y }
-    ensures near_x { IsNear result.x }
-    ensures near_y { IsNear result.y }
+    ensures near_x { IsNearPlace result.x }
+    ensures near_y { IsNearPlace result.y }
 {
     Point {
         x: to.x - from.x,

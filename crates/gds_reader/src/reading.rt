@@ -8,7 +8,7 @@ ghost use Rattle.layout_model.specs.Images.{IsOrient};
 ghost use Rattle.layout_model.specs.Names.{IsName};
 ghost use Rattle.layout_model.specs.declared.pair.Pair.{Pair as APair};
 ghost use Rattle.layout_model.specs.declared.cells.Layout.{Layout as ALayout};
-ghost use Rattle.gds_record.specs.Reals.{Agrees};
+ghost use Rattle.gds_record.specs.Reals.{AgreesWithUnit};
 ghost use Rattle.gds_record.specs.declared.kinds.Kind.TheVariants.{Xy, EndLib, EndStr, StrName, Units};
 ghost use Rattle.gds_record.specs.declared.records.Record.{Record as ARecord};
 ghost use Rattle.layout_model.specs.Pairs.{AreSamePairs, AreSorted};
@@ -17,9 +17,9 @@ ghost use Rattle.gds_reader.specs.Elements.{IsHeld, IsElementOf, TellsShape, Kee
 ghost use Rattle.gds_reader.specs.Meaning.{wanted_at, cells_at};
 ghost use Rattle.gds_reader.specs.Readers.{IsReaderOf, IsStructureOf, IsTaken, IsRefused, IsBadXy, IsStanding};
 ghost use Rattle.gds_reader.specs.Readers.{IsTail, cells_kept};
-ghost use Rattle.gds_reader.specs.Reading.{IsLayoutOf, IsFirstFault, framing_fault, unit_in};
+ghost use Rattle.gds_reader.specs.Reading.{IsGdsiiLayoutOf, IsFirstGdsiiFault, framing_fault, unit_in};
 ghost use Rattle.gds_reader.specs.Refused.{IsRefusedBy};
-ghost use Rattle.gds_reader.specs.Values.{Keeps, KeepsRules, name_in, points_in};
+ghost use Rattle.gds_reader.specs.Values.{KeepsGdsiiRule, KeepsGdsiiRules, name_in, points_in};
 ghost use Rattle.gds_reader.specs.declared.refusing.GdsBad.{GdsBad as ABad};
 
 use crate::counting::count;
@@ -78,8 +78,8 @@ fn framing_bad(fault: Framing, at: usize) -> GdsBad
 fn other_unit(bytes: &[u8], unit: u32, current: Record) -> Option<u64>
     requires { IsHeld bytes.now current }
     ensures other { IfSome result (λ bits. (current.kind ≡ Units) × (bits ≡ unit_in bytes.now current)
-        × ¬ Agrees (unit_in bytes.now current) unit) }
-    ensures none { IfNone result (current.kind ≡ Units → Agrees (unit_in bytes.now current) unit) }
+        × ¬ AgreesWithUnit (unit_in bytes.now current) unit) }
+    ensures none { IfNone result (current.kind ≡ Units → AgreesWithUnit (unit_in bytes.now current) unit) }
 {
     match current.kind {
         Kind::Units => {
@@ -190,10 +190,10 @@ fn take_within(
         → OnOk result (IsStructureOf bytes.now wanted (current ∷ past) structure.new) }
     ensures kept { (past : Items ARecord) (wanted : Items APair) → IsElementOf bytes.now past element.now
         → drawn ≡ wanted_at bytes.now wanted past current
-        → OnOk result (current.kind ≡ Xy → KeepsRules bytes.now wanted past current) }
+        → OnOk result (current.kind ≡ Xy → KeepsGdsiiRules bytes.now wanted past current) }
     ensures broken { (past : Items ARecord) (wanted : Items APair) → IsElementOf bytes.now past element.now
         → drawn ≡ wanted_at bytes.now wanted past current
-        → IfFault result (IsRefusedBy (Keeps bytes.now wanted past current) at) }
+        → IfFault result (IsRefusedBy (KeepsGdsiiRule bytes.now wanted past current) at) }
 {
     match current.kind {
         Kind::Xy => take_points(alloc, bytes, element, current, at, drawn, points, structure),
@@ -271,10 +271,10 @@ fn build(
         → All IsPlacementOnGrid structure.old.placements → OnOk result (All IsCellOnGrid cells.new) }
     ensures kept { (past : Items ARecord) (wanted : Items APair) → IsElementOf bytes.now past element.now
         → drawn ≡ wanted_at bytes.now wanted past current
-        → OnOk result (current.kind ≡ Xy → KeepsRules bytes.now wanted past current) }
+        → OnOk result (current.kind ≡ Xy → KeepsGdsiiRules bytes.now wanted past current) }
     ensures broken { (past : Items ARecord) (wanted : Items APair) → IsElementOf bytes.now past element.now
         → drawn ≡ wanted_at bytes.now wanted past current
-        → IfFault result (IsRefusedBy (Keeps bytes.now wanted past current) at) }
+        → IfFault result (IsRefusedBy (KeepsGdsiiRule bytes.now wanted past current) at) }
 {
     if current.kind == Kind::EndStr {
         close(alloc, bytes, structure, cells)?;
@@ -388,7 +388,7 @@ impl<'a> Reader<'a> {
         ensures standing { IfOk result (λ next. IsStanding bytes.now unit sorted.now next self.new) }
         ensures onward { IfOk result (λ next. at ≤ next) }
         ensures first_fault { (wanted : Items APair) → AreSamePairs wanted sorted.now
-            → IfFault result (IsFirstFault bytes.now unit wanted) }
+            → IfFault result (IsFirstGdsiiFault bytes.now unit wanted) }
     {
         let Some(current) = record_of_kind(bytes, at, kind) else {
             return Ok(at);
@@ -414,7 +414,7 @@ impl<'a> Reader<'a> {
         ensures standing { IfOk result (λ next. IsStanding bytes.now unit sorted.now next self.new) }
         ensures onward { IfOk result (λ next. at ≤ next) }
         ensures first_fault { (wanted : Items APair) → AreSamePairs wanted sorted.now
-            → IfFault result (IsFirstFault bytes.now unit wanted) }
+            → IfFault result (IsFirstGdsiiFault bytes.now unit wanted) }
     {
         let end = self.take_kind(alloc, bytes, unit, sorted, at, Kind::Xy)?;
         if end == at {
@@ -439,7 +439,7 @@ impl<'a> Reader<'a> {
         ensures standing { IfOk result (λ next. IsStanding bytes.now unit sorted.now next self.new) }
         ensures onward { IfOk result (λ next. at ≤ next) }
         ensures first_fault { (wanted : Items APair) → AreSamePairs wanted sorted.now
-            → IfFault result (IsFirstFault bytes.now unit wanted) }
+            → IfFault result (IsFirstGdsiiFault bytes.now unit wanted) }
     {
         let layer = self.take_kind(alloc, bytes, unit, sorted, at, Kind::Boundary)?;
         if layer == at {
@@ -470,7 +470,7 @@ impl<'a> Reader<'a> {
         ensures standing { IfOk result (λ next. IsStanding bytes.now unit sorted.now next self.new) }
         ensures onward { IfOk result (λ next. at ≤ next) }
         ensures first_fault { (wanted : Items APair) → AreSamePairs wanted sorted.now
-            → IfFault result (IsFirstFault bytes.now unit wanted) }
+            → IfFault result (IsFirstGdsiiFault bytes.now unit wanted) }
     {
         let mut from = at;
         'boundaries: loop {
@@ -525,10 +525,10 @@ fn read_records(
 ) -> Result<Layout, Refusal<GdsBad>>
     requires { AreSorted sorted.now }
     ensures found { (wanted : Items APair) → AreSamePairs wanted sorted.now
-        → IfOk result (λ layout. IsLayoutOf bytes.now unit wanted layout) }
+        → IfOk result (λ layout. IsGdsiiLayoutOf bytes.now unit wanted layout) }
     ensures grid { IfOk result IsLayoutOnGrid }
     ensures first_fault { (wanted : Items APair) → AreSamePairs wanted sorted.now
-        → IfFault result (IsFirstFault bytes.now unit wanted) }
+        → IfFault result (IsFirstGdsiiFault bytes.now unit wanted) }
 {
     let mut reader = Reader::new(alloc, bytes);
     let mut at = 0;
@@ -563,12 +563,12 @@ pub fn read_gds(
     unit: u32,
     wanted: &[Pair],
 ) -> Result<Layout, Refusal<GdsBad>>
-    ensures found { IfOk result (λ layout. IsLayoutOf bytes.now unit wanted.now layout) }
+    ensures found { IfOk result (λ layout. IsGdsiiLayoutOf bytes.now unit wanted.now layout) }
     ensures grid { IfOk result IsLayoutOnGrid }
-    ensures read { (layout : ALayout) → IsLayoutOf bytes.now unit wanted.now layout
+    ensures read { (layout : ALayout) → IsGdsiiLayoutOf bytes.now unit wanted.now layout
         → (result ≡ Ok layout) ⊎ (result ≡ Err Wanting) }
-    ensures first_fault { IfFault result (IsFirstFault bytes.now unit wanted.now) }
-    ensures every_fault { (bad : ABad) → IsFirstFault bytes.now unit wanted.now bad
+    ensures first_fault { IfFault result (IsFirstGdsiiFault bytes.now unit wanted.now) }
+    ensures every_fault { (bad : ABad) → IsFirstGdsiiFault bytes.now unit wanted.now bad
         → (result ≡ Err (Fault bad)) ⊎ (result ≡ Err Wanting) }
 {
     let sorted = sorted_pairs(alloc, wanted)?;

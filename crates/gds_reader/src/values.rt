@@ -8,7 +8,7 @@ ghost use Rattle.layout_model.specs.declared.pair.Pair.{Pair as APair};
 ghost use Rattle.gds_record.specs.declared.kinds.Kind.TheVariants.{Xy, Path, StrName};
 ghost use Rattle.gds_record.specs.declared.records.Record.{Record as ARecord};
 ghost use Rattle.gds_reader.specs.Elements.{IsHeld, IsElementOf};
-ghost use Rattle.gds_reader.specs.Values.{name_in, IsCount, IsLowestBroken, KeepsRules};
+ghost use Rattle.gds_reader.specs.Values.{name_in, IsCount, IsLowestBrokenByRecord, KeepsGdsiiRules};
 
 use crate::elements::{Element, factor_of, quarter_turns};
 use crate::naming::name_of;
@@ -88,10 +88,10 @@ pub(crate) fn broken_rule(
     requires held { IsHeld bytes.now current }
     requires sorted { AreSorted sorted.now }
     ensures broken { (past : List ARecord) (wanted : List APair) → IsElementOf bytes.now past element.now
-        → AreSamePairs wanted sorted.now → IfSome result (λ rule. IsLowestBroken bytes.now wanted past current rule) }
+        → AreSamePairs wanted sorted.now → IfSome result (λ rule. IsLowestBrokenByRecord bytes.now wanted past current rule) }
     ensures kept { (past : List ARecord) (wanted : List APair) → IsElementOf bytes.now past element.now
         → AreSamePairs wanted sorted.now → current.kind ≢ Xy
-        → IfNone result (KeepsRules bytes.now wanted past current) }
+        → IfNone result (KeepsGdsiiRules bytes.now wanted past current) }
     ensures name { current.kind ≡ StrName → IfNone result (IsName (name_in bytes.now current)) }
 {
     let first = current.first;

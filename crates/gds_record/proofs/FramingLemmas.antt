@@ -6,8 +6,8 @@ use Rattle.gds_record.specs.declared.records.Record.{Record}
 use Rattle.gds_record.specs.declared.records.Framing.{Framing}
 use Rattle.gds_record.specs.declared.records.Framing.TheVariants as faults
 use Rattle.gds_record.specs.Faults.{HasNoHead, HasBadLength, IsCutOff, HasBadContent, IsFaultAt}
-use Rattle.gds_record.specs.Framing.{length_at, head_at, IsRecordLength, IsWhole, IsRecordAt}
-use Rattle.gds_record.specs.Heads.{head_of, content_of, IsAllowed}
+use Rattle.gds_record.specs.Framing.{length_at, head_at, IsRecordLength, IsWholeRecord, IsRecordAt}
+use Rattle.gds_record.specs.Heads.{head_of, content_of, IsLengthAllowed}
 use Rattle.gds_record.proofs.HeadLemmas.{head_of_unique}
 use Rattle.std.specs.Prelude.{◌≢◌}
 
@@ -21,7 +21,7 @@ record_unique bytes at r s p q =
     same_record r.kind s.kind r.first s.first r.next s.next
     (head_of_unique r.kind s.kind (sym p.head ∙ q.head)) (p.first ∙ sym q.first) (p.next ∙ sym q.next)
 
-short_whole : (bytes : List ℕ) (at : ℕ) → HasNoHead bytes at ⊎ IsCutOff bytes at → IsWhole bytes at → ⊥
+short_whole : (bytes : List ℕ) (at : ℕ) → HasNoHead bytes at ⊎ IsCutOff bytes at → IsWholeRecord bytes at → ⊥
 short_whole bytes at (inl short) w = let h : length bytes < at + 4 = short in omega (arith, w.begins)
 short_whole bytes at (inr cut) w = omega (arith, cut.cut, w.ends)
 
@@ -34,10 +34,10 @@ short_bad bytes at (inr cut) bad = bad_sized bytes at bad cut.sized
 
 -- a content is of the wrong length for the one kind that has the head
 wrong_size : (bytes : List ℕ) (at : ℕ) (j k : Kind) → HasBadContent bytes at j → head_at bytes at ≡ head_of k
-    → IsAllowed (content_of k) (length_at bytes at - 4) → ⊥
+    → IsLengthAllowed (content_of k) (length_at bytes at - 4) → ⊥
 wrong_size bytes at j k bad head right =
     let same : k ≡ j = head_of_unique k j (sym head ∙ bad.head) in
-    bad.size (subst (λ kind. IsAllowed (content_of kind) (length_at bytes at - 4)) same right)
+    bad.size (subst (λ kind. IsLengthAllowed (content_of kind) (length_at bytes at - 4)) same right)
 
 -- nothing is wrong where a record stands
 pub record_or_fault : (bytes : List ℕ) (at : ℕ) (r : Record) (f : Framing) → IsRecordAt bytes at r → IsFaultAt bytes at f → ⊥
@@ -86,11 +86,11 @@ fault_no_record bytes at f p r = (λ e. absurd (cc), λ q. absurd (record_or_fau
 
 -- the tests that show that a whole record stands at the offset
 pub whole_record : (bytes : List ℕ) (at n : ℕ) → at ≤ length bytes → 4 ≤ length bytes - at → n ≡ length_at bytes at
-    → 4 ≤ n → n % 2 ≢ 1 → n ≤ length bytes - at → IsWhole bytes at
+    → 4 ≤ n → n % 2 ≢ 1 → n ≤ length bytes - at → IsWholeRecord bytes at
 whole_record bytes at n inside head stated least even left =
     record { begins = omega arith; sized = record { least = omega arith; even = omega arith }; ends = omega arith }
 
 -- a content's length may be taken from an equal kind and an equal length
-pub allowed_along : (j k : ContentLength) (m n : ℕ) → j ≡ k → m ≡ n → IsAllowed j (m - 4) → IsAllowed k (n - 4)
+pub allowed_along : (j k : ContentLength) (m n : ℕ) → j ≡ k → m ≡ n → IsLengthAllowed j (m - 4) → IsLengthAllowed k (n - 4)
 allowed_along j k m n kinds lengths allowed =
-    subst (λ c. IsAllowed c (n - 4)) kinds (subst (λ l. IsAllowed j (l - 4)) lengths allowed)
+    subst (λ c. IsLengthAllowed c (n - 4)) kinds (subst (λ l. IsLengthAllowed j (l - 4)) lengths allowed)

@@ -6,7 +6,7 @@ use Rattle.std.proofs.lemmas.Int.{ints, unsigned_abs-mul}
 use Rattle.std.proofs.lemmas.Nat.{pow-add, mul-pow, one_shl, pow_pos}
 use Rattle.std.specs.Int.RustNames.{unsigned_abs}
 use Rattle.std.specs.Prelude.{IsTrue, Bool, ℤ, pos, negsuc, ◌*ℤ◌, ◌-ℤ◌, neg_ℤ}
-use Rattle.gds_record.specs.Reals.{sign_of, exponent_of, fraction_of, with_sign, IsRealValue, IsShift, IsWholeReal, IsWithin, Agrees}
+use Rattle.gds_record.specs.Reals.{sign_of, exponent_of, fraction_of, with_sign, IsRealValue, IsShift, IsWholeGdsiiReal, IsWithinTolerance, AgreesWithUnit}
 
 -- 16^e in powers of two
 sixteen : (e : ℕ) → 16 ^ e ≡ 2 ^ (4 * e)
@@ -75,26 +75,26 @@ pub real_value_unique : (bits : ℕ) (m n : ℤ) → IsRealValue bits m → IsRe
 real_value_unique bits m n p q = multiple_unique (16 ^ 64 * 2 ^ 56) (lit< tt) m n (sym p ∙ q)
 
 -- what an answer that gives the value has to show
-pub taken : (bits : ℕ) (m : ℤ) → IsWholeReal bits m → (n : ℤ)
-    → (Some m ≡ Some n → IsWholeReal bits n) × (IsWholeReal bits n → Some m ≡ Some n)
+pub taken : (bits : ℕ) (m : ℤ) → IsWholeGdsiiReal bits m → (n : ℤ)
+    → (Some m ≡ Some n → IsWholeGdsiiReal bits n) × (IsWholeGdsiiReal bits n → Some m ≡ Some n)
 taken bits m w n =
-    (λ e. let same : m ≡ n = cc in subst (IsWholeReal bits) same w, λ v. ap Some (real_value_unique bits m n w.value v.value))
+    (λ e. let same : m ≡ n = cc in subst (IsWholeGdsiiReal bits) same w, λ v. ap Some (real_value_unique bits m n w.value v.value))
 
 -- the value of a real whose fraction 2^s divides
 pub exact_value : (bits sign s q : ℕ) → sign_of bits ≡ sign → IsShift bits s → s ≤ 56 → fraction_of bits ≡ q * 2 ^ s
-    → IsWholeReal bits (with_sign sign q)
+    → IsWholeGdsiiReal bits (with_sign sign q)
 exact_value bits sign s q signed shift small h = record {
   scope = inr (s, shift, small);
   value = rw signed (exact sign (fraction_of bits) (exponent_of bits) s q shift h);
 }
 
 -- a whole number that the real is makes 2^s a divisor of the fraction
-pub no_value : (bits s : ℕ) (n : ℤ) → IsShift bits s → IsWholeReal bits n → fraction_of bits ≡ unsigned_abs n * 2 ^ s
+pub no_value : (bits s : ℕ) (n : ℤ) → IsShift bits s → IsWholeGdsiiReal bits n → fraction_of bits ≡ unsigned_abs n * 2 ^ s
 no_value bits s n shift w = divides (sign_of bits) (fraction_of bits) (exponent_of bits) s n shift w.value
 
 -- the fraction is no multiple of 2^s: no whole number
 pub no_quotient : (bits f e : ℕ) (quotient : Option ℕ) → f ≡ fraction_of bits → e ≡ exponent_of bits → e ≤ 78
-    → ((q : ℕ) → (quotient ≡ Some q) ↔ (f ≡ q * 2 ^ (312 - 4 * e))) → quotient ≡ None → (n : ℤ) → IsWholeReal bits n → ⊥
+    → ((q : ℕ) → (quotient ≡ Some q) ↔ (f ≡ q * 2 ^ (312 - 4 * e))) → quotient ≡ None → (n : ℤ) → IsWholeGdsiiReal bits n → ⊥
 no_quotient bits f e quotient fraction exponent small h none n w =
     let shift : IsShift bits (312 - 4 * e) = omega (arith, exponent, small) in
     let product : f ≡ unsigned_abs n * 2 ^ (312 - 4 * e) = fraction ∙ no_value bits (312 - 4 * e) n shift w in
@@ -103,7 +103,7 @@ no_quotient bits f e quotient fraction exponent small h none n w =
 
 -- the fraction is q * 2^s: the whole number q with the sign
 pub some_quotient : (bits sign f e q : ℕ) → sign_of bits ≡ sign → f ≡ fraction_of bits → e ≡ exponent_of bits
-    → 64 ≤ e → e ≤ 78 → f ≡ q * 2 ^ (312 - 4 * e) → IsWholeReal bits (with_sign sign q)
+    → 64 ≤ e → e ≤ 78 → f ≡ q * 2 ^ (312 - 4 * e) → IsWholeGdsiiReal bits (with_sign sign q)
 some_quotient bits sign f e q signed fraction exponent large small h =
     exact_value bits sign (312 - 4 * e) q signed (omega (arith, exponent, small)) (omega (arith, large)) (sym fraction ∙ h)
 
@@ -133,8 +133,8 @@ negated_magnitude q f bits small fraction = omega (arith, ints)
 -- what the test of a unit has to show, where the shift is in range and the sign isn't set
 pub agrees_at : (bits unit f u e : ℕ) (result : Bool) → sign_of bits ≡ 0 → f ≡ fraction_of bits → u ≡ unit → e ≡ exponent_of bits
     → 51 ≤ e → e ≤ 68
-    → (IsTrue result ↔ IsWithin (f * u * 1000000) ((1 * 2 ^ (312 - 4 * e)) % 2 ^ 128) ((1 * 2 ^ (312 - 4 * e - 40)) % 2 ^ 128))
-    → IsTrue result ↔ Agrees bits unit
+    → (IsTrue result ↔ IsWithinTolerance (f * u * 1000000) ((1 * 2 ^ (312 - 4 * e)) % 2 ^ 128) ((1 * 2 ^ (312 - 4 * e - 40)) % 2 ^ 128))
+    → IsTrue result ↔ AgreesWithUnit bits unit
 agrees_at bits unit f u e result signed fraction units exponent large small test =
     let one : (1 * 2 ^ (312 - 4 * e)) % 2 ^ 128 ≡ 2 ^ (312 - 4 * e) = one_shl (312 - 4 * e) 128 (omega (arith, large)) in
     let tolerance : (1 * 2 ^ (312 - 4 * e - 40)) % 2 ^ 128 ≡ 2 ^ (312 - 4 * e - 40) =
@@ -153,5 +153,5 @@ agrees_at bits unit f u e result signed fraction units exponent large small test
       λ agrees.
           let shift : agrees.0 + 4 * exponent_of bits ≡ 312 = agrees.1.shift in
           let same : agrees.0 ≡ 312 - 4 * e = omega (arith, exponent, shift) in
-          near.1 (subst (λ k. IsWithin (fraction_of bits * unit * 10 ^ 6) (2 ^ k) (2 ^ (k - 40))) same agrees.1.near),
+          near.1 (subst (λ k. IsWithinTolerance (fraction_of bits * unit * 10 ^ 6) (2 ^ k) (2 ^ (k - 40))) same agrees.1.near),
     )

@@ -10,13 +10,13 @@ use Rattle.gds_record.specs.declared.records.Record.{Record}
 use Rattle.gds_record.specs.declared.records.Framing.{Framing}
 use Rattle.gds_record.specs.declared.records.Framing.TheVariants as faults
 use Rattle.gds_record.specs.Faults.{IsFaultAt}
-use Rattle.gds_record.specs.Framing.{length_at, head_at, IsRecordLength, IsWhole, IsRecordAt}
-use Rattle.gds_record.specs.Heads.{head_of, content_of, kind_with_head, IsAllowed}
-use Rattle.gds_record.specs.Runs.{IsRun, EndsOnlyLast, IsClosed, RecordsExist}
+use Rattle.gds_record.specs.Framing.{length_at, head_at, IsRecordLength, IsWholeRecord, IsRecordAt}
+use Rattle.gds_record.specs.Heads.{head_of, content_of, kind_with_head, IsLengthAllowed}
+use Rattle.gds_record.specs.Runs.{AreRecordsEndToEnd, EndsOnlyLast, IsLibraryClosed, RecordsExist}
 use Rattle.gds_record.proofs.FramingLemmas.{record_or_fault}
 use Rattle.gds_record.proofs.HeadLemmas.{head_of_unique, head_of-kind_with_head, no_kind}
 
-decide_allowed : (content : ContentLength) (n : ℕ) → IsAllowed content n ⊎ ¬ IsAllowed content n
+decide_allowed : (content : ContentLength) (n : ℕ) → IsLengthAllowed content n ⊎ ¬ IsLengthAllowed content n
 decide_allowed (Exactly wanted) n = cases_eq n wanted
 decide_allowed AnyEven n = cases_eq (n % 2) 0
 decide_allowed Points n =
@@ -29,7 +29,7 @@ decide_allowed Points n =
 abbrev pub Answer : List ℕ → ℕ → Type 0
 Answer bytes at = ((r : Record) × IsRecordAt bytes at r) ⊎ ((f : Framing) × IsFaultAt bytes at f)
 
-with_kind : (bytes : List ℕ) (at : ℕ) → IsWhole bytes at → (found : Option Kind) → kind_with_head (head_at bytes at) ≡ found
+with_kind : (bytes : List ℕ) (at : ℕ) → IsWholeRecord bytes at → (found : Option Kind) → kind_with_head (head_at bytes at) ≡ found
     → Answer bytes at
 with_kind bytes at whole None none = inr (faults.Kind, record { whole = whole; unknown = no_kind (head_at bytes at) none })
 with_kind bytes at whole (Some k) some =
@@ -46,7 +46,7 @@ with_length bytes at begins sized =
     elim (cases_lt (length bytes) (at + length_at bytes at)) [
       | inl cut ↦ inr (faults.Short, inr (record { begins = begins; sized = sized; cut = cut }))
       | inr ends ↦
-          let whole : IsWhole bytes at = record { begins = begins; sized = sized; ends = ends } in
+          let whole : IsWholeRecord bytes at = record { begins = begins; sized = sized; ends = ends } in
           with_kind bytes at whole (kind_with_head (head_at bytes at)) refl
     ]
 
@@ -69,16 +69,16 @@ some_answer bytes at =
 record ListFrom (bytes : List ℕ) (at : ℕ) : Type 0 where
   items : List Record
   to : ℕ
-  run : IsRun bytes at items to
+  run : AreRecordsEndToEnd bytes at items to
   ends : EndsOnlyLast items
-  longest : IsClosed items ⊎ ((r : Record) → ¬ IsRecordAt bytes to r)
+  longest : IsLibraryClosed items ⊎ ((r : Record) → ¬ IsRecordAt bytes to r)
 
 ends_cons : (r : Record) (rs : List Record) → r.kind ≢ EndLib → EndsOnlyLast rs → EndsOnlyLast (r ∷ rs)
 ends_cons r [] more ends = tt
 ends_cons r (s ∷ rs) more ends = (more, ends)
 
-longest_cons : (bytes : List ℕ) (r : Record) (rs : List Record) (to : ℕ) → IsClosed rs ⊎ ((s : Record) → ¬ IsRecordAt bytes to s)
-    → IsClosed (r ∷ rs) ⊎ ((s : Record) → ¬ IsRecordAt bytes to s)
+longest_cons : (bytes : List ℕ) (r : Record) (rs : List Record) (to : ℕ) → IsLibraryClosed rs ⊎ ((s : Record) → ¬ IsRecordAt bytes to s)
+    → IsLibraryClosed (r ∷ rs) ⊎ ((s : Record) → ¬ IsRecordAt bytes to s)
 longest_cons bytes r rs to (inr none) = inr none
 longest_cons bytes r [] to (inl closed) = absurd closed
 longest_cons bytes r (s ∷ rs) to (inl closed) = inl closed

@@ -5,8 +5,8 @@ use Rattle.std.specs.Prelude.{◌≡◌, ◌≢◌, ◌<◌, ◌≤◌, ◌+◌,
 use Rattle.gds_record.specs.declared.records.Framing.{Framing}
 use Rattle.gds_record.specs.declared.records.Framing.TheVariants as faults
 use Rattle.gds_record.specs.declared.kinds.Kind.{Kind}
-use Rattle.gds_record.specs.Framing.{length_at, head_at, IsRecordLength, IsWhole}
-use Rattle.gds_record.specs.Heads.{head_of, content_of, IsAllowed}
+use Rattle.gds_record.specs.Framing.{length_at, head_at, IsRecordLength, IsWholeRecord}
+use Rattle.gds_record.specs.Heads.{head_of, content_of, IsLengthAllowed}
 
 -- fewer than four bytes are left
 abbrev pub HasNoHead : List ℕ → ℕ → Type 0
@@ -25,14 +25,14 @@ pub record IsCutOff (bytes : List ℕ) (at : ℕ) : Type 0 where
 
 -- no kind has the head
 pub record HasUnknownHead (bytes : List ℕ) (at : ℕ) : Type 0 where
-  pub whole : IsWhole bytes at
+  pub whole : IsWholeRecord bytes at
   pub unknown : (kind : Kind) → head_at bytes at ≢ head_of kind
 
 -- the content of the head's kind has another length
 pub record HasBadContent (bytes : List ℕ) (at : ℕ) (kind : Kind) : Type 0 where
-  pub whole : IsWhole bytes at
+  pub whole : IsWholeRecord bytes at
   pub head : head_at bytes at ≡ head_of kind
-  pub size : ¬ IsAllowed (content_of kind) (length_at bytes at - 4)
+  pub size : ¬ IsLengthAllowed (content_of kind) (length_at bytes at - 4)
 
 -- this is what is wrong at the offset
 abbrev pub IsFaultAt : List ℕ → ℕ → Framing → Type 0

@@ -2,7 +2,7 @@
 -- two bytes, which counts these two, the two bytes of the head and the content. The length is even and at least four.
 use Rattle.std.specs.Prelude.{◌≡◌, ◌≤◌, ◌+◌, ◌-◌, ◌%◌, ℕ, List, length}
 use Rattle.gds_record.specs.declared.records.Record.{Record}
-use Rattle.gds_record.specs.Heads.{head_of, content_of, IsAllowed}
+use Rattle.gds_record.specs.Heads.{head_of, content_of, IsLengthAllowed}
 use Rattle.gds_record.specs.Numbers.{number_at}
 
 -- the length that a record at this offset states
@@ -19,15 +19,15 @@ pub record IsRecordLength (n : ℕ) : Type 0 where
   pub even : n % 2 ≡ 0
 
 -- all bytes of a record stand at this offset, whatever its head is
-pub record IsWhole (bytes : List ℕ) (at : ℕ) : Type 0 where
+pub record IsWholeRecord (bytes : List ℕ) (at : ℕ) : Type 0 where
   pub begins : at + 4 ≤ length bytes
   pub sized : IsRecordLength (length_at bytes at)
   pub ends : at + length_at bytes at ≤ length bytes
 
 -- this record stands at the offset
 pub record IsRecordAt (bytes : List ℕ) (at : ℕ) (r : Record) : Type 0 where
-  pub whole : IsWhole bytes at
+  pub whole : IsWholeRecord bytes at
   pub head : head_at bytes at ≡ head_of r.kind
-  pub content : IsAllowed (content_of r.kind) (length_at bytes at - 4)
+  pub content : IsLengthAllowed (content_of r.kind) (length_at bytes at - 4)
   pub first : r.first ≡ at + 4
   pub next : r.next ≡ at + length_at bytes at

@@ -13,15 +13,15 @@ use Rattle.gds_record.specs.declared.kinds.Kind.TheVariants.{StrClass, Format, L
 use Rattle.gds_record.specs.declared.kinds.ContentLength.{ContentLength}
 use Rattle.gds_record.specs.declared.kinds.ContentLength.TheVariants.{Exactly, AnyEven, Points}
 
-pub record Row : Type 0 where
+pub record HeadRow : Type 0 where
   pub head : ℕ
   pub content : ContentLength
 
-abbrev pub row : ℕ → ContentLength → Row
+abbrev pub row : ℕ → ContentLength → HeadRow
 row head content = record { head = head; content = content }
 
 -- the table
-abbrev pub row_of : Kind → Row
+abbrev pub row_of : Kind → HeadRow
 row_of Header = row 0x0002 (Exactly 2)
 row_of BgnLib = row 0x0102 (Exactly 24)
 row_of LibName = row 0x0206 AnyEven
@@ -76,10 +76,10 @@ abbrev pub content_of : Kind → ContentLength
 content_of kind = (row_of kind).content
 
 -- a content may have this many bytes
-abbrev pub IsAllowed : ContentLength → ℕ → Type 0
-IsAllowed (Exactly wanted) bytes = bytes ≡ wanted
-IsAllowed AnyEven bytes = bytes % 2 ≡ 0
-IsAllowed Points bytes = (8 ≤ bytes) × (bytes % 8 ≡ 0)
+abbrev pub IsLengthAllowed : ContentLength → ℕ → Type 0
+IsLengthAllowed (Exactly wanted) bytes = bytes ≡ wanted
+IsLengthAllowed AnyEven bytes = bytes % 2 ≡ 0
+IsLengthAllowed Points bytes = (8 ≤ bytes) × (bytes % 8 ≡ 0)
 
 -- each kind, once
 abbrev pub kinds : List Kind

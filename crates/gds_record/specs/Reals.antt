@@ -31,12 +31,12 @@ abbrev pub IsInScope : ℕ → Type 0
 IsInScope bits = (fraction_of bits ≡ 0) ⊎ ((s : ℕ) × IsShift bits s × (s ≤ 56))
 
 -- the real is taken as the whole number n
-pub record IsWholeReal (bits : ℕ) (n : ℤ) : Type 0 where
+pub record IsWholeGdsiiReal (bits : ℕ) (n : ℤ) : Type 0 where
   pub scope : IsInScope bits
   pub value : IsRealValue bits n
 
 -- two numbers differ by at most the tolerance
-pub record IsWithin (a b tolerance : ℕ) : Type 0 where
+pub record IsWithinTolerance (a b tolerance : ℕ) : Type 0 where
   pub above : a ≤ b + tolerance
   pub below : b ≤ a + tolerance
 
@@ -47,8 +47,8 @@ pub record AgreesBy (bits unit s : ℕ) : Type 0 where
   pub least : 40 ≤ s
   pub most : s ≤ 110
   pub positive : sign_of bits ≡ 0
-  pub near : IsWithin (fraction_of bits * unit * 10 ^ 6) (2 ^ s) (2 ^ (s - 40))
+  pub near : IsWithinTolerance (fraction_of bits * unit * 10 ^ 6) (2 ^ s) (2 ^ (s - 40))
 
 -- the real, in metres, is the length of a unit of which a micrometre has this many
-abbrev pub Agrees : ℕ → ℕ → Type 0
-Agrees bits unit = (s : ℕ) × AgreesBy bits unit s
+abbrev pub AgreesWithUnit : ℕ → ℕ → Type 0
+AgreesWithUnit bits unit = (s : ℕ) × AgreesBy bits unit s

@@ -6,14 +6,14 @@ use Rattle.gds_record.specs.declared.kinds.Kind.TheVariants.{EndLib}
 use Rattle.gds_record.specs.Framing.{IsRecordAt}
 
 -- these records are laid end to end from one offset up to another
-abbrev pub IsRun : List ℕ → ℕ → List Record → ℕ → Type 0
-IsRun bytes from [] to = from ≡ to
-IsRun bytes from (r ∷ rs) to = IsRecordAt bytes from r × IsRun bytes r.next rs to
+abbrev pub AreRecordsEndToEnd : List ℕ → ℕ → List Record → ℕ → Type 0
+AreRecordsEndToEnd bytes from [] to = from ≡ to
+AreRecordsEndToEnd bytes from (r ∷ rs) to = IsRecordAt bytes from r × AreRecordsEndToEnd bytes r.next rs to
 
 -- no record ends the library
-abbrev pub NoneEnds : List Record → Type 0
-NoneEnds [] = ⊤
-NoneEnds (r ∷ rs) = (r.kind ≢ EndLib) × NoneEnds rs
+abbrev pub NoRecordEnds : List Record → Type 0
+NoRecordEnds [] = ⊤
+NoRecordEnds (r ∷ rs) = (r.kind ≢ EndLib) × NoRecordEnds rs
 
 -- no record but the last ends the library
 abbrev pub EndsOnlyLast : List Record → Type 0
@@ -22,22 +22,22 @@ EndsOnlyLast (r ∷ []) = ⊤
 EndsOnlyLast (r ∷ s ∷ rs) = (r.kind ≢ EndLib) × EndsOnlyLast (s ∷ rs)
 
 -- the last record ends the library
-abbrev pub IsClosed : List Record → Type 0
-IsClosed [] = ⊥
-IsClosed (r ∷ []) = r.kind ≡ EndLib
-IsClosed (r ∷ s ∷ rs) = IsClosed (s ∷ rs)
+abbrev pub IsLibraryClosed : List Record → Type 0
+IsLibraryClosed [] = ⊥
+IsLibraryClosed (r ∷ []) = r.kind ≡ EndLib
+IsLibraryClosed (r ∷ s ∷ rs) = IsLibraryClosed (s ∷ rs)
 
 -- these are the records of the file, and the last one ends at this offset
 pub record IsRecordsOf (bytes : List ℕ) (rs : List Record) (to : ℕ) : Type 0 where
-  pub run : IsRun bytes 0 rs to
+  pub run : AreRecordsEndToEnd bytes 0 rs to
   pub ends : EndsOnlyLast rs
-  pub longest : IsClosed rs ⊎ ((r : Record) → ¬ IsRecordAt bytes to r)
+  pub longest : IsLibraryClosed rs ⊎ ((r : Record) → ¬ IsRecordAt bytes to r)
 
 -- these are the records of a framed file
 pub record IsFramed (bytes : List ℕ) (rs : List Record) : Type 0 where
   pub to : ℕ
   pub records : IsRecordsOf bytes rs to
-  pub closed : IsClosed rs
+  pub closed : IsLibraryClosed rs
   pub blank : (k : ℕ) → to ≤ k → k < length bytes → slice_index bytes k ≡ 0
 
 -- each file has a list of records

@@ -2,7 +2,7 @@
 //! 6.0, record description).
 
 ghost use Rattle.std.specs.Prelude.{◌≡◌, ◌↔◌, IsTrue, Some};
-ghost use Rattle.gds_record.specs.Heads.{head_of, kind_with_head, element_kind_with_head, content_of, IsAllowed};
+ghost use Rattle.gds_record.specs.Heads.{head_of, kind_with_head, element_kind_with_head, content_of, IsLengthAllowed};
 
 /// What a record holds, one variant for each record type of GDSII Stream Format Manual 6.0.
 #[derive(Clone, Copy, Debug, PartialEq, Eq)]
@@ -303,7 +303,7 @@ pub(crate) fn content_length(kind: Kind) -> ContentLength
 /// Whether a content may have this many bytes.
 #[inline(always)]
 pub(crate) fn is_allowed(content: ContentLength, bytes: usize) -> bool
-    ensures { IsTrue result ↔ IsAllowed content bytes }
+    ensures { IsTrue result ↔ IsLengthAllowed content bytes }
 {
     match content {
         ContentLength::Exactly(wanted) => bytes == wanted,

@@ -1,7 +1,7 @@
 //! Eight-byte reals, by exact arithmetic on their bits (GDSII Stream Format Manual 6.0, data types).
 
 ghost use Rattle.std.specs.Prelude.{◌≡◌, ◌<◌, ◌≤◌, ◌*◌, ◌^◌, ◌↔◌, ℕ, ℤ, IsTrue, IfSome};
-ghost use Rattle.gds_record.specs.Reals.{sign_of, exponent_of, fraction_of, IsWholeReal, IsWithin, Agrees};
+ghost use Rattle.gds_record.specs.Reals.{sign_of, exponent_of, fraction_of, IsWholeGdsiiReal, IsWithinTolerance, AgreesWithUnit};
 
 /// The `s` at which a real with the exponent 0 is its fraction over `2^s`; it falls by 4 with each step
 /// of the exponent.
@@ -49,7 +49,7 @@ fn whole_quotient(fraction: u64, shift: u32) -> Option<u64>
 /// the fraction over `2^s` where `s`, which is `56 + 4 * (64 - exponent)`, is 0 to 56 and the division
 /// is exact. A real with a greater exponent is none, though it may be a whole number.
 pub fn real_whole(bits: u64) -> Option<i64>
-    ensures { (n : ℤ) → (result ≡ Some n) ↔ IsWholeReal bits n }
+    ensures { (n : ℤ) → (result ≡ Some n) ↔ IsWholeGdsiiReal bits n }
 {
     let real = real_of(bits);
     if real.fraction == 0 {
@@ -68,7 +68,7 @@ pub fn real_whole(bits: u64) -> Option<i64>
 
 /// Whether two numbers differ by at most the tolerance.
 fn is_within(a: u128, b: u128, tolerance: u128) -> bool
-    ensures { IsTrue result ↔ IsWithin a b tolerance }
+    ensures { IsTrue result ↔ IsWithinTolerance a b tolerance }
 {
     a.abs_diff(b) <= tolerance
 }
@@ -76,7 +76,7 @@ fn is_within(a: u128, b: u128, tolerance: u128) -> bool
 /// Whether the real with these bits, as a length in metres, is that of a unit of which a micrometre has
 /// `unit`: the real times `unit * 10^6` is 1 but for one part in `2^40`.
 pub fn unit_agrees(bits: u64, unit: u32) -> bool
-    ensures { IsTrue result ↔ Agrees bits unit }
+    ensures { IsTrue result ↔ AgreesWithUnit bits unit }
 {
     let real = real_of(bits);
     // The shift is 40 to 110; it goes by fours.

@@ -3,7 +3,7 @@
 ghost use Rattle.std.specs.Prelude.{◌≡◌, ◌<◌, ◌≤◌, ◌-◌, ◌↔◌, Some, length, IfOk};
 ghost use Rattle.gds_record.specs.Faults.{IsFaultAt};
 ghost use Rattle.gds_record.specs.Framing.{IsRecordAt};
-ghost use Rattle.gds_record.specs.Heads.{content_of, IsAllowed};
+ghost use Rattle.gds_record.specs.Heads.{content_of, IsLengthAllowed};
 
 use crate::kinds::{Kind, content_length, head_code, is_allowed, kind_of};
 use crate::numbers::unsigned2;
@@ -47,7 +47,7 @@ pub fn record_at(bytes: &[u8], at: usize) -> Result<Record, Framing>
     ensures onward { IfOk result (λ r. at < r.next) }
     ensures within { IfOk result (λ r. r.next ≤ length bytes.now) }
     ensures behind_head { IfOk result (λ r. r.first ≤ r.next) }
-    ensures content { IfOk result (λ r. IsAllowed (content_of r.kind) (r.next - r.first)) }
+    ensures content { IfOk result (λ r. IsLengthAllowed (content_of r.kind) (r.next - r.first)) }
 {
     let left = bytes.len() - at;
     if left < HEAD {

@@ -11,7 +11,7 @@ use Rattle.half_grid.specs.Halves.{half, is_even}
 use Rattle.half_grid.specs.Lines.{x_on}
 use Rattle.half_grid.specs.Rows.{place, number_in_row}
 use Rattle.half_grid.specs.Winding.{count_one}
-use Rattle.half_grid.specs.Sizes.{is_tile, is_same_side, IsNumberOfTiles}
+use Rattle.half_grid.specs.Sizes.{is_tile, is_same_side, IsNumberIn}
 use Rattle.half_grid.specs.Trapezoids.{Trapezoid, IsInTrapezoid, IsLegal, bottom_of, top_of}
 use Rattle.half_grid.specs.declared.plane.Side.{Side}
 use Rattle.half_grid.specs.declared.plane.Side.TheVariants.{Left, Right}
@@ -303,7 +303,7 @@ legal_in_order : (z : Trapezoid) (k : ℕ) → IsLegal z → z.y0 +ℤ pos k ≡
 legal_in_order z k legal e = λ j a b. (let below = legal_places z j legal a (omega (arith, ints, b, e)) in omega (arith, ints, below))
 
 size_by : (z : Trapezoid) (n k : ℕ) → IsLegal z → z.y1 -ℤ z.y0 ≡ pos k → z.y0 +ℤ pos k ≡ z.y1
-    → pos n ≡ (z.y1 -ℤ z.y0) *ℤ (bottom_of z +ℤ top_of z) → IsNumberOfTiles z n
+    → pos n ≡ (z.y1 -ℤ z.y0) *ℤ (bottom_of z +ℤ top_of z) → IsNumberIn (IsInTrapezoid z) n
 size_by z n k legal height top e =
     let order = legal_in_order z k legal top in
     let long = rw top at (rows_length z.left z.right z.y0 k order) in
@@ -316,7 +316,7 @@ size_by z n k legal height top e =
     }
 
 -- A legal trapezoid has as many tiles as its height times the sum of its parallel sides.
-pub size_is : (z : Trapezoid) (n : ℕ) → IsLegal z → pos n ≡ (z.y1 -ℤ z.y0) *ℤ (bottom_of z +ℤ top_of z) → IsNumberOfTiles z n
+pub size_is : (z : Trapezoid) (n : ℕ) → IsLegal z → pos n ≡ (z.y1 -ℤ z.y0) *ℤ (bottom_of z +ℤ top_of z) → IsNumberIn (IsInTrapezoid z) n
 size_is z n legal e =
     let height : pos (natural (z.y1 -ℤ z.y0)) ≡ z.y1 -ℤ z.y0 = natural_is (z.y1 -ℤ z.y0) (omega (arith, ints, legal.has_rows)) in
     size_by z n (natural (z.y1 -ℤ z.y0)) legal (sym height) (omega (arith, ints, height)) e

@@ -1,21 +1,22 @@
 -- ---- what is promised, in reading order
-pub mod Halves
-pub mod Reach
-pub mod Tiles
-pub mod Lines
-pub mod Rows
-pub mod Winding
-pub mod Outlines
 pub mod Trapezoids
+pub mod Reach
+pub mod Lines
+pub mod JoinedLists
+pub mod Halves
+pub mod Tiles
+pub mod Rows
+pub mod Nearness
+pub mod Winding
+pub mod Windows
+pub mod Outlines
+pub mod Quads
+pub mod Sizes
+-- ---- what is kept inside
 pub mod Sides
 pub mod RowLaws
 pub mod Ways
 pub mod Edges
-pub mod Windows
-pub mod Quads
-pub mod Sizes
-pub mod Nearness
 pub mod Meetings
 pub mod LineLaws
 pub mod EdgeLaws
-pub mod JoinedLists

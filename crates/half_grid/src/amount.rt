@@ -1,6 +1,6 @@
 ghost use Rattle.std.specs.Prelude.{◌≡◌, pos, ◌-ℤ◌, ◌+ℤ◌, ◌*ℤ◌, ◌≤◌, ◌^◌};
-ghost use Rattle.half_grid.specs.Trapezoids.{IsShot, bottom_of, top_of};
-ghost use Rattle.half_grid.specs.Sizes.{IsNumberOfTiles};
+ghost use Rattle.half_grid.specs.Trapezoids.{IsInTrapezoid, IsShot, bottom_of, top_of};
+ghost use Rattle.half_grid.specs.Sizes.{IsNumberIn};
 
 use crate::shot::Trap;
 
@@ -33,7 +33,7 @@ fn top_of(trap: &Trap) -> u64
 /// The number of a trapezoid's tiles: its height times the sum of the lengths of its parallel sides.
 pub fn size_of(trap: &Trap) -> u128
     ensures value { pos result ≡ (trap.now.y1 -ℤ trap.now.y0) *ℤ (bottom_of trap.now +ℤ top_of trap.now) }
-    ensures tiles { IsNumberOfTiles trap.now result }
+    ensures tiles { IsNumberIn (IsInTrapezoid trap.now) result }
 {
     u128::from(rows_of(trap)) * u128::from(bottom_of(trap) + top_of(trap))
 }

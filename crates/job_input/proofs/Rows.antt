@@ -8,14 +8,14 @@ use Rattle.layout_model.specs.declared.cells.Layout.{Layout}
 use Rattle.gds_reader.specs.declared.refusing.GdsBad.{GdsBad}
 use Rattle.oas_reader.specs.declared.refusing.OasBad.{OasBad}
 use Rattle.cell_tree.specs.Trees.{Rooted}
-use Rattle.cell_tree.specs.Faults.{IsFirstFault, order_of}
+use Rattle.cell_tree.specs.Faults.{IsFirstTreeFault, order_of}
 use Rattle.cell_tree.specs.declared.faults.TreeBad.{TreeBad}
 use Rattle.cell_tree.proofs.ForCallers.{no_fault, answered}
 use Rattle.deck_text.specs.declared.refusal.DeckBad.{DeckBad}
 use Rattle.deck_text.specs.declared.deck.Deck.{Deck}
 use Rattle.job_input.specs.Accepted.{IsTreeFor, HoldsInput}
 use Rattle.job_input.specs.Refused.{HoldsDeckFault, IsLongLayout, HoldsGdsFault, HoldsOasFault, IsTreeFaultFor, HoldsTreeFault, IsWanting}
-use Rattle.job_input.specs.Clauses.{Answer, ComesExactlyWhere, IsOfKind, ComesByKind}
+use Rattle.job_input.specs.Clauses.{Answer, IsReadExactlyWhere, IsOfKind, ComesByKind}
 use Rattle.job_input.specs.Parts.{IsInputAnswer}
 use Rattle.job_input.specs.declared.formats.Format.{Format}
 use Rattle.job_input.specs.declared.reading.Input.{Input}
@@ -34,14 +34,14 @@ one_kind d l bad other grid (inl (e, none)) (inr (n, f, first)) = absurd (none-s
 one_kind d l bad other grid (inr (n, e, first)) (inl (f, none)) = absurd (none-some n (sym none ∙ e))
 one_kind d l bad other grid (inr (n, e, first)) (inr (m, f, first_other)) =
     let same : m ≡ n = same_Some m n (sym f ∙ e) in
-    let here : IsFirstFault l.cells n other = subst (λ k. IsFirstFault l.cells k other) same first_other in
+    let here : IsFirstTreeFault l.cells n other = subst (λ k. IsFirstTreeFault l.cells k other) same first_other in
     answered {T = Rooted} l.cells n (Err (Fault other)) bad grid.cells tt here first
 
 no_tree_fault : (d : Deck) (t : Rooted) (bad : TreeBad) → IsLayoutOnGrid t.layout → IsTreeFor d t → IsTreeFaultFor d t.layout bad → ⊥
 no_tree_fault d t bad grid tree (inl (e, none)) = none-some t.top (sym none ∙ tree.top)
 no_tree_fault d t bad grid tree (inr (n, e, first)) =
     let same : n ≡ t.top = same_Some n t.top (sym e ∙ tree.top) in
-    no_fault t.layout.cells t.top bad grid.cells tree.is_tree (subst (λ k. IsFirstFault t.layout.cells k bad) same first)
+    no_fault t.layout.cells t.top bad grid.cells tree.is_tree (subst (λ k. IsFirstTreeFault t.layout.cells k bad) same first)
 
 -- ---- what is due
 
@@ -124,13 +124,13 @@ module _ (laws : OasisLaws) (c : Content) (read_rose : Type 0) (layout deck : Li
     named f name top same (inl e) = inl (e ∙ ap f (sym same))
     named f name top same (inr aside) = inr aside
 
-    pub deck_long : ComesExactlyWhere read_rose r (Err (Fault (answers.Deck deck_faults.Long))) (IsLongerThan 65536 c deck)
+    pub deck_long : IsReadExactlyWhere read_rose r (Err (Fault (answers.Deck deck_faults.Long))) (IsLongerThan 65536 c deck)
     deck_long = record { only = λ e. told (Err (Fault (answers.Deck deck_faults.Long))) e; whenever = λ h. due LongDeck h }
 
-    pub deck_bad : (bad : DeckBad) → ComesExactlyWhere read_rose r (Err (Fault (answers.Deck (deck_faults.Bad bad)))) (HoldsDeckFault c layout deck bad)
+    pub deck_bad : (bad : DeckBad) → IsReadExactlyWhere read_rose r (Err (Fault (answers.Deck (deck_faults.Bad bad)))) (HoldsDeckFault c layout deck bad)
     deck_bad bad = record { only = λ e. told (Err (Fault (answers.Deck (deck_faults.Bad bad)))) e; whenever = λ h. due (BadDeck bad) h }
 
-    pub layout_long : (top : List ℕ) → ComesExactlyWhere read_rose r (Err (Fault (answers.Layout layout_faults.Long top))) (IsLongLayout c layout deck top)
+    pub layout_long : (top : List ℕ) → IsReadExactlyWhere read_rose r (Err (Fault (answers.Layout layout_faults.Long top))) (IsLongLayout c layout deck top)
     layout_long top = record {
       only = λ e. told (Err (Fault (answers.Layout layout_faults.Long top))) e;
       whenever = λ h. named (λ t. Err (Fault (answers.Layout layout_faults.Long t))) h.deck_is.top top h.top_is
@@ -138,7 +138,7 @@ module _ (laws : OasisLaws) (c : Content) (read_rose : Type 0) (layout deck : Li
     }
 
     pub layout_gds : (bad : GdsBad) (top : List ℕ)
-        → ComesExactlyWhere read_rose r (Err (Fault (answers.Layout (layout_faults.Gds bad) top)))
+        → IsReadExactlyWhere read_rose r (Err (Fault (answers.Layout (layout_faults.Gds bad) top)))
         (HoldsGdsFault c layout deck bad top)
     layout_gds bad top = record {
       only = λ e. told (Err (Fault (answers.Layout (layout_faults.Gds bad) top))) e;
@@ -147,7 +147,7 @@ module _ (laws : OasisLaws) (c : Content) (read_rose : Type 0) (layout deck : Li
     }
 
     pub layout_oas : (bad : OasBad) (top : List ℕ)
-        → ComesExactlyWhere read_rose r (Err (Fault (answers.Layout (layout_faults.Oas bad) top)))
+        → IsReadExactlyWhere read_rose r (Err (Fault (answers.Layout (layout_faults.Oas bad) top)))
         (HoldsOasFault c layout deck bad top)
     layout_oas bad top = record {
       only = λ e. told (Err (Fault (answers.Layout (layout_faults.Oas bad) top))) e;
@@ -180,7 +180,7 @@ module _ (laws : OasisLaws) (c : Content) (read_rose : Type 0) (layout deck : Li
     given_by input h (inl (grid, inr (bad, fault, e))) = absurd (no_tree_fault input.deck input.tree bad grid h.is_tree fault)
     given_by input h (inr aside) = inr aside
 
-    pub given : (input : Input) → ComesExactlyWhere read_rose r (Ok input) (HoldsInput c layout deck input)
+    pub given : (input : Input) → IsReadExactlyWhere read_rose r (Ok input) (HoldsInput c layout deck input)
     given input = record {
       only = λ e. (told (Ok input) e).0;
       whenever = λ h. given_by input h (due (GoodDeck input.deck (GoodLayout input.format input.tree.layout)) (h.holds_deck, h.holds_layout));

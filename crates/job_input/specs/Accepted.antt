@@ -10,8 +10,8 @@ use Rattle.std.specs.Prelude.{◌≡◌, ℕ, ◌≤◌, List, length, slice_get
 use Rattle.depot.specs.Content.{Content, held_as}
 use Rattle.layout_model.specs.declared.cells.Layout.{Layout}
 use Rattle.layout_model.specs.declared.pair.Pair.{Pair}
-use Rattle.gds_reader.specs.Reading.{IsLayoutOf as IsGdsLayoutOf}
-use Rattle.oas_reader.specs.Reading.{IsLayoutOf as IsOasLayoutOf}
+use Rattle.gds_reader.specs.Reading.{IsGdsiiLayoutOf as IsGdsLayoutOf}
+use Rattle.oas_reader.specs.Reading.{IsGdsiiLayoutOf as IsOasLayoutOf}
 use Rattle.cell_tree.specs.Cells.{cell_number}
 use Rattle.cell_tree.specs.Trees.{IsTree, Rooted}
 use Rattle.deck_text.specs.Decks.{IsDeck, layers_of}

@@ -15,7 +15,7 @@ Answer = Result Input (Refusal InputBad)
 
 -- The answer comes only where its cause holds, and where it holds no other comes but want of memory and a counted fault
 -- of reading.
-pub record ComesExactlyWhere (read_rose : Type 0) (result answer : Answer) (cause : Type 0) : Type 0 where
+pub record IsReadExactlyWhere (read_rose : Type 0) (result answer : Answer) (cause : Type 0) : Type 0 where
   pub only : result ≡ answer → cause
   pub whenever : cause → (result ≡ answer) ⊎ (result ≡ Err NoMemory) ⊎ ((result ≡ Err (Fault answers.ReadFault)) × read_rose)
 

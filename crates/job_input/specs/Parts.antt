@@ -7,7 +7,7 @@ use Rattle.geo_stream.specs.declared.refusal.Refusal.TheVariants.{Fault, NoMemor
 use Rattle.layout_model.specs.Layouts.{IsLayoutOnGrid}
 use Rattle.layout_model.specs.declared.cells.Layout.{Layout}
 use Rattle.cell_tree.specs.Trees.{Rooted}
-use Rattle.deck_text.specs.Decks.{IsDeck, IsFirstFault}
+use Rattle.deck_text.specs.Decks.{IsDeck, IsFirstDeckFault}
 use Rattle.deck_text.specs.declared.deck.Deck.{Deck}
 use Rattle.job_input.specs.Accepted.{Holds, HoldsDeck, IsLayoutFor, HoldsLayout, IsTreeFor, HoldsInput}
 use Rattle.job_input.specs.Refused.{HoldsDeckFault, IsLongLayout, IsGdsFaultFor, HoldsGdsFault, IsOasFaultFor}
@@ -28,7 +28,7 @@ use Rattle.job_input.specs.declared.refusing.LayoutFault.TheVariants as layout_f
 abbrev pub IsDeckTold : (bytes layout deck : List ℕ) → Result Deck (Refusal InputBad) → Type 0
 IsDeckTold bytes layout deck (Ok d) = IsDeck bytes layout deck d
 IsDeckTold bytes layout deck (Err (Fault (answers.Deck deck_faults.Long))) = ⊥
-IsDeckTold bytes layout deck (Err (Fault (answers.Deck (deck_faults.Bad bad)))) = IsFirstFault bytes layout deck bad
+IsDeckTold bytes layout deck (Err (Fault (answers.Deck (deck_faults.Bad bad)))) = IsFirstDeckFault bytes layout deck bad
 IsDeckTold bytes layout deck (Err (Fault (answers.Layout fault top))) = ⊥
 IsDeckTold bytes layout deck (Err (Fault answers.ReadFault)) = ⊥
 IsDeckTold bytes layout deck (Err NoMemory) = ⊤

@@ -2,15 +2,15 @@
 use Rattle.std.specs.Prelude.{◌≡◌, ◌⊎◌, ℕ, List, Some, None}
 use Rattle.depot.specs.Content.{Content, IsNotThere, IsLongerThan}
 use Rattle.layout_model.specs.declared.cells.Layout.{Layout}
-use Rattle.gds_reader.specs.Reading.{IsFirstFault as IsFirstGdsFault}
+use Rattle.gds_reader.specs.Reading.{IsFirstGdsiiFault as IsFirstGdsFault}
 use Rattle.gds_reader.specs.declared.refusing.GdsBad.{GdsBad}
-use Rattle.oas_reader.specs.Reading.{IsFirstFault as IsFirstOasFault}
+use Rattle.oas_reader.specs.Reading.{IsFirstGdsiiFault as IsFirstOasFault}
 use Rattle.oas_reader.specs.declared.refusing.OasBad.{OasBad}
 use Rattle.cell_tree.specs.Cells.{cell_number}
-use Rattle.cell_tree.specs.Faults.{IsFirstFault as IsFirstTreeFault}
+use Rattle.cell_tree.specs.Faults.{IsFirstGdsiiFault as IsFirstTreeFault}
 use Rattle.cell_tree.specs.declared.faults.TreeBad.{TreeBad}
 use Rattle.cell_tree.specs.declared.faults.TreeBad.TheVariants.{NoTop}
-use Rattle.deck_text.specs.Decks.{IsFirstFault as IsFirstDeckFault, layers_of}
+use Rattle.deck_text.specs.Decks.{IsFirstGdsiiFault as IsFirstDeckFault, layers_of}
 use Rattle.deck_text.specs.declared.refusal.DeckBad.{DeckBad}
 use Rattle.deck_text.specs.declared.deck.Deck.{Deck}
 use Rattle.job_input.specs.Accepted.{Holds, HoldsDeck, IsFormatOf, HoldsLayout}

@@ -10,7 +10,7 @@ ghost use Rattle.deck_text.specs.declared.refusal.DeckBad.{DeckBad as ADeckBad};
 ghost use Rattle.job_input.specs.Accepted.{HoldsInput, IsOfBytes};
 ghost use Rattle.job_input.specs.Refused.{HoldsDeckFault, IsLongLayout, HoldsGdsFault, HoldsOasFault, HoldsTreeFault};
 ghost use Rattle.job_input.specs.Refused.{IsWanting};
-ghost use Rattle.job_input.specs.Clauses.{ComesExactlyWhere, ComesByKind, CountsFor};
+ghost use Rattle.job_input.specs.Clauses.{IsReadExactlyWhere, ComesByKind, CountsFor};
 ghost use Rattle.job_input.specs.Parts.{IsInputAnswer, layout_refused};
 ghost use Rattle.job_input.specs.declared.reading.Input.{Input as AnInput};
 
@@ -94,28 +94,28 @@ pub fn read_input<D: Depot>(
     deck: &str,
 ) -> Result<Input, Refusal<InputBad>>
     // What is accepted is given.
-    ensures given { IsTrue D.tells → (input : AnInput) → ComesExactlyWhere
+    ensures given { IsTrue D.tells → (input : AnInput) → IsReadExactlyWhere
         (Rose (D.counts depot.old).read_faults (D.counts depot.new).read_faults) result
         (Ok input) (HoldsInput (D.content depot.old) layout.now deck.now input) }
 
     // The cause of each refusal.
-    ensures deck_long { IsTrue D.tells → ComesExactlyWhere
+    ensures deck_long { IsTrue D.tells → IsReadExactlyWhere
         (Rose (D.counts depot.old).read_faults (D.counts depot.new).read_faults) result
         (Err (Fault (InputBad.Deck DeckFault.Long))) (IsLongerThan 65536 (D.content depot.old) deck.now) }
-    ensures deck_bad { IsTrue D.tells → (bad : ADeckBad) → ComesExactlyWhere
+    ensures deck_bad { IsTrue D.tells → (bad : ADeckBad) → IsReadExactlyWhere
         (Rose (D.counts depot.old).read_faults (D.counts depot.new).read_faults) result
         (Err (Fault (InputBad.Deck (DeckFault.Bad bad))))
         (HoldsDeckFault (D.content depot.old) layout.now deck.now bad) }
     // Those of the layout keep the name of the deck's top cell.
-    ensures layout_long { IsTrue D.tells → (top : Items ℕ) → ComesExactlyWhere
+    ensures layout_long { IsTrue D.tells → (top : Items ℕ) → IsReadExactlyWhere
         (Rose (D.counts depot.old).read_faults (D.counts depot.new).read_faults) result
         (Err (Fault (InputBad.Layout LayoutFault.Long top)))
         (IsLongLayout (D.content depot.old) layout.now deck.now top) }
-    ensures layout_gds { IsTrue D.tells → (bad : AGdsBad) (top : Items ℕ) → ComesExactlyWhere
+    ensures layout_gds { IsTrue D.tells → (bad : AGdsBad) (top : Items ℕ) → IsReadExactlyWhere
         (Rose (D.counts depot.old).read_faults (D.counts depot.new).read_faults) result
         (Err (Fault (InputBad.Layout (LayoutFault.Gds bad) top)))
         (HoldsGdsFault (D.content depot.old) layout.now deck.now bad top) }
-    ensures layout_oas { IsTrue D.tells → (bad : AnOasBad) (top : Items ℕ) → ComesExactlyWhere
+    ensures layout_oas { IsTrue D.tells → (bad : AnOasBad) (top : Items ℕ) → IsReadExactlyWhere
         (Rose (D.counts depot.old).read_faults (D.counts depot.new).read_faults) result
         (Err (Fault (InputBad.Layout (LayoutFault.Oas bad) top)))
         (HoldsOasFault (D.content depot.old) layout.now deck.now bad top) }

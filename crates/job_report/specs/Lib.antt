@@ -1,7 +1,8 @@
 -- ---- what is promised, in reading order
-pub mod Pieces
+pub mod Endings
+pub mod ShotLines
 pub mod Lines
 pub mod Report
-pub mod ShotLines
-pub mod Endings
+pub mod Pieces
+-- ---- what is kept inside
 pub mod Codes

@@ -1,1 +1,2 @@
+-- ---- what is kept inside
 pub mod Keys

@@ -1,3 +1,3 @@
 -- ---- what is promised, in reading order
-pub mod Streams
 pub mod Generated
+pub mod Streams

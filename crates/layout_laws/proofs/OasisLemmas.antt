@@ -21,8 +21,8 @@ use Rattle.oas_reader.specs.Items.{Item, records_in, tables_at_end, magic, is_en
 use Rattle.oas_reader.specs.Meaning.{at_of, brush_of, figure_of, layout_of}
 use Rattle.oas_reader.specs.Names.{conflict_of, first_unknown, first_twins}
 use Rattle.oas_reader.specs.Order.{is_in_order}
-use Rattle.oas_reader.specs.Reading.{item, HasUnit, IsTail, IsAllowed, IsReadUpTo, IsWhole, IsDefined, IsRefused}
-use Rattle.oas_reader.specs.Rules.{FigureKeeps, PolygonKeeps, PathKeeps, KindKeeps, KeepsDrawn, Keeps, KeepsRules, IsLowestBroken}
+use Rattle.oas_reader.specs.Reading.{item, HasUnit, IsTail, IsItemAllowed, AreItemsReadUpTo, IsWholeFile, HasAllNeeded, IsRefused}
+use Rattle.oas_reader.specs.Rules.{FigureKeeps, PolygonKeeps, PathKeeps, KindKeeps, KeepsDrawn, KeepsOasisRule, KeepsOasisRules, IsLowestBrokenByItem}
 use Rattle.oas_reader.specs.Undefined.{undefined_of}
 use Rattle.oas_reader.specs.declared.refusing.OasBad.{OasBad}
 use Rattle.oas_reader.specs.declared.refusing.OasBad.TheVariants as faults
@@ -67,7 +67,7 @@ far_drawn r all rep rule far =
       | _ ↦ tt
     ]
 
-far_rule : (bytes : List ℕ) (wanted : List Pair) (past : List OasRecord) (r : OasRecord) (rule : ℕ) → 11 < rule → Keeps bytes wanted past r rule
+far_rule : (bytes : List ℕ) (wanted : List Pair) (past : List OasRecord) (r : OasRecord) (rule : ℕ) → 11 < rule → KeepsOasisRule bytes wanted past r rule
 far_rule bytes wanted past r rule far = record {
   positions = λ e. absurd (omega arith);
   offsets = λ e. absurd (omega arith);
@@ -81,10 +81,10 @@ far_rule bytes wanted past r rule far = record {
   drawn = λ is. far_drawn r (r ∷ past) _ rule far;
 }
 
-rules_or_not : (bytes : List ℕ) (wanted : List Pair) (past : List OasRecord) (r : OasRecord) → ((rule : ℕ) → IsLowestBroken bytes wanted past r rule → ⊥)
-    → (KeepsRules bytes wanted past r → ⊥) → ⊥
+rules_or_not : (bytes : List ℕ) (wanted : List Pair) (past : List OasRecord) (r : OasRecord) → ((rule : ℕ) → IsLowestBrokenByItem bytes wanted past r rule → ⊥)
+    → (KeepsOasisRules bytes wanted past r → ⊥) → ⊥
 rules_or_not bytes wanted past r none refute =
-    first_kept (Keeps bytes wanted past r) none 12
+    first_kept (KeepsOasisRule bytes wanted past r) none 12
     (λ below. refute (λ rule. elim (cases_lt rule 12) [ inl near ↦ below rule near | inr far ↦ far_rule bytes wanted past r rule (omega arith) ]))
 
 -- ---- one record
@@ -99,7 +99,7 @@ by_option (Some a) absent present = present a refl
 
 module _ (bytes : List ℕ) (unit : ℕ) (wanted : List Pair) (past : List Item) (at : ℕ) (r : OasRecord) (next : ℕ)
     (sound : (bad : OasBad) → IsRefused bytes unit wanted past at r next bad → ⊥) where
-  unit_or_not : IsDefined past r → KeepsRules bytes wanted (records_in past) r → conflict_of bytes past r ≡ None → (HasUnit unit r → ⊥) → ⊥
+  unit_or_not : HasAllNeeded past r → KeepsOasisRules bytes wanted (records_in past) r → conflict_of bytes past r ≡ None → (HasUnit unit r → ⊥) → ⊥
   unit_or_not defined rules names refute =
       sound (faults.Unit at) (inr (inr (inr (inr (inl (record {
         defined = defined;
@@ -109,7 +109,7 @@ module _ (bytes : List ℕ) (unit : ℕ) (wanted : List Pair) (past : List Item)
         bad_is = refl;
       }))))))
 
-  tail_or_not : IsDefined past r → KeepsRules bytes wanted (records_in past) r → conflict_of bytes past r ≡ None → HasUnit unit r
+  tail_or_not : HasAllNeeded past r → KeepsOasisRules bytes wanted (records_in past) r → conflict_of bytes past r ≡ None → HasUnit unit r
       → is_end r ≡ true → (IsTail bytes at next → ⊥) → ⊥
   tail_or_not defined rules names agrees ends refute =
       sound (faults.Tail at) (inr (inr (inr (inr (inr (record {
@@ -122,15 +122,15 @@ module _ (bytes : List ℕ) (unit : ℕ) (wanted : List Pair) (past : List Item)
         bad_is = refl;
       }))))))
 
-  allowed_by : IsDefined past r → KeepsRules bytes wanted (records_in past) r → conflict_of bytes past r ≡ None
-      → (IsAllowed bytes unit wanted past at r next → ⊥) → ⊥
+  allowed_by : HasAllNeeded past r → KeepsOasisRules bytes wanted (records_in past) r → conflict_of bytes past r ≡ None
+      → (IsItemAllowed bytes unit wanted past at r next → ⊥) → ⊥
   allowed_by defined rules names refute =
       unit_or_not defined rules names (λ agrees. by_test (is_end r)
       (λ ends. tail_or_not defined rules names agrees ends
       (λ tail. refute (record { defined = defined.defined; rules = rules; names = names; unit_agrees = agrees; tail = λ e. tail })))
       (λ stays. refute (record { defined = defined.defined; rules = rules; names = names; unit_agrees = agrees; tail = λ ends. absurd (cc) })))
 
-  allowed_or_not : (is_in_order (records_in past) r ≡ true → IsAllowed bytes unit wanted past at r next → ⊥) → ⊥
+  allowed_or_not : (is_in_order (records_in past) r ≡ true → IsItemAllowed bytes unit wanted past at r next → ⊥) → ⊥
   allowed_or_not refute =
       by_test (is_in_order (records_in past) r)
       (λ order. by_option (undefined_of (records_in past) r)
@@ -162,7 +162,7 @@ module _ (bytes : List ℕ) (unit : ℕ) (wanted : List Pair) (past : List Item)
 
 module _ (bytes : List ℕ) (unit : ℕ) (wanted : List Pair) (none : HoldNoLayout bytes unit wanted) (faultless : HaveNoFault bytes unit wanted)
     (places : (at : ℕ) → at ≤ length bytes → (tables : Bool) → HasRecordOrNone bytes at tables) where
-  ends_or_not : (last : Item) (past : List Item) (next : ℕ) → IsWhole bytes unit wanted last past next → ⊥
+  ends_or_not : (last : Item) (past : List Item) (next : ℕ) → IsWholeFile bytes unit wanted last past next → ⊥
   ends_or_not last past next whole =
       by_option (first_unknown bytes (records_in (last ∷ past)) (last ∷ past))
       (λ known. by_option (first_twins bytes (records_in (last ∷ past)) (last ∷ past))
@@ -191,7 +191,7 @@ module _ (bytes : List ℕ) (unit : ℕ) (wanted : List Pair) (none : HoldNoLayo
       }))))
 
   -- with so many bytes left at most
-  none_left : (n : ℕ) (past : List Item) (at : ℕ) → IsReadUpTo bytes unit wanted past at → at ≤ length bytes → length bytes < at + n → ⊥
+  none_left : (n : ℕ) (past : List Item) (at : ℕ) → AreItemsReadUpTo bytes unit wanted past at → at ≤ length bytes → length bytes < at + n → ⊥
   none_left zero past at read within left = omega (arith, within, left)
   none_left (suc n) past at read within left = elim (places at within (tables_at_end (records_in past))) [
     | inr without ↦ faultless (faults.Lexical at without.0) (inr (inl (record {

@@ -19,7 +19,7 @@ use Rattle.cell_tree.specs.Cells.{name_at}
 use Rattle.cell_tree.specs.Chains.{Link, IsChain, chain_cells, chain_end, chain_factor}
 use Rattle.cell_tree.specs.Faults.{is_beyond, first_beyond}
 use Rattle.cell_tree.specs.Flattening.{Flat, flattened, shape_count, IsVertex}
-use Rattle.cell_tree.specs.Trees.{IsKnown, IsAcyclic, IsShallow, IsMild, KeepsFixed, IsNear, IsCounted}
+use Rattle.cell_tree.specs.Trees.{IsKnown, IsAcyclic, IsShallow, IsMild, KeepsFixed, AreVerticesNear, IsCounted}
 use Rattle.cell_tree.specs.declared.faults.TreeBad.TheVariants.{Unknown, Cycle, Deep, Scale, Fixed, Extent, Count}
 use Rattle.cell_tree.proofs.ForCallers.{chain_take, chain_joined, end_joined, Has, has_any, any_has, has_flat, flat_has, contains_slot, slot_contains}
 use Rattle.cell_tree.proofs.ForCallers.{has_slot, slot_has}
@@ -246,7 +246,7 @@ module _ (cells : List Cell) (top : ℕ) (none : HasNoFault cells top) where
     ))
   ]
 
-  near_by : (points : List Point) → points_of (flattened cells top) ≡ points → IsNear cells top
+  near_by : (points : List Point) → points_of (flattened cells top) ≡ points → AreVerticesNear cells top
   near_by [] e pair p vertex = absurd (subst (Has (λ q. q ≡ p)) e (vertex_point cells top p (pair, vertex)))
   near_by (first ∷ points) e pair p vertex =
       let box = box_of (IsSomeVertex cells top) first points (λ q is. subst (Has (λ r. r ≡ q)) e (vertex_point cells top q is))
@@ -254,7 +254,7 @@ module _ (cells : List Cell) (top : ℕ) (none : HasNoFault cells top) where
       within_or_not box.0 p (box.1.around p (pair, vertex))
       (λ value beyond. none (Extent value) (known, acyclic, shallow, mild, fixed, record { box = box.0; least = box.1; first = beyond }))
 
-  near : IsNear cells top
+  near : AreVerticesNear cells top
   near = near_by (points_of (flattened cells top)) refl
 
   -- a chain from the top ends in a cell with few shapes, where at most so many links can be put to it

@@ -5,15 +5,15 @@ use Rattle.layout_model.specs.declared.pair.Pair.{Pair}
 use Rattle.oas_record.specs.Records.{HasRecord, NoRecord}
 use Rattle.oas_record.specs.declared.faults.RecordBad.{RecordBad}
 use Rattle.oas_record.specs.declared.records.OasRecord.{OasRecord}
-use Rattle.oas_reader.specs.Reading.{IsLayoutOf, IsFirstFault}
+use Rattle.oas_reader.specs.Reading.{IsOasisLayoutOf, IsFirstOasisFault}
 use Rattle.oas_reader.specs.declared.refusing.OasBad.{OasBad}
 
 -- the bytes hold no layout, of this unit and with the shapes on these pairs
 abbrev pub HoldNoLayout : List ℕ → ℕ → List Pair → Type 0
-HoldNoLayout bytes unit wanted = (layout : Layout) → IsLayoutOf bytes unit wanted layout → ⊥
+HoldNoLayout bytes unit wanted = (layout : Layout) → IsOasisLayoutOf bytes unit wanted layout → ⊥
 
 abbrev pub HaveNoFault : List ℕ → ℕ → List Pair → Type 0
-HaveNoFault bytes unit wanted = (bad : OasBad) → IsFirstFault bytes unit wanted bad → ⊥
+HaveNoFault bytes unit wanted = (bad : OasBad) → IsFirstOasisFault bytes unit wanted bad → ⊥
 
 -- bytes that hold no layout have a first fault: they don't hold no layout and have no first fault
 abbrev pub OthersHaveFault : List ℕ → Type 0

@@ -1,3 +1,3 @@
 -- ---- what is promised, in reading order
-pub mod TreeLaws
 pub mod FileLaws
+pub mod TreeLaws

@@ -9,7 +9,7 @@ use Rattle.layout_model.specs.declared.stretches.Brush.{Brush}
 use Rattle.layout_model.specs.declared.stretches.Walk.{Walk}
 use Rattle.layout_model.specs.Paths.{rectangle, rectangle_of, rectangle_shape, rectangles, stretches, HasNoLength}
 use Rattle.layout_model.specs.Layouts.{IsWithin}
-use Rattle.layout_model.specs.PathBounds.{IsNear, IsNearPoint, IsNearBrush, IsNearStretch}
+use Rattle.layout_model.specs.PathBounds.{IsNearOnPath, IsNearPoint, IsNearBrush, IsNearStretch}
 use Rattle.layout_model.specs.Walks.{turns_at, walk_from, walk_on, walk_round, stretch_of}
 use Rattle.layout_model.proofs.WalkLemmas.{walk_list, walk_straight, walk_turn, whole_walk}
 
@@ -27,9 +27,9 @@ near_points points all = All-weaker (IsWithin (2 ^ 41)) IsNearPoint near_point p
 pub record IsNearWalk (w : Walk) : Type 0 where
   pub from : IsNearPoint w.from
   pub last : IsNearPoint w.last
-  pub before : IsNear w.before
+  pub before : IsNearOnPath w.before
 
-pub near_stretch : (b : Brush) (after : ℤ) (w : Walk) → IsNearBrush b → IsNear after → IsNearWalk w → IsNearStretch (stretch_of b after w)
+pub near_stretch : (b : Brush) (after : ℤ) (w : Walk) → IsNearBrush b → IsNearOnPath after → IsNearWalk w → IsNearStretch (stretch_of b after w)
 near_stretch b after w hb ha hw = record { from = hw.from; to = hw.last; half = hb.half; before = hw.before; after = ha }
 
 -- ---- the shapes so far, with those of the segments that are left, are the shapes of the whole

@@ -12,7 +12,7 @@ use Rattle.half_grid.specs.Winding.{edges_of}
 use Rattle.half_grid.specs.declared.plane.Point.{Point}
 use Rattle.layout_model.specs.Images.{moved}
 use Rattle.layout_model.specs.Layouts.{IsWithin}
-use Rattle.layout_model.specs.PathBounds.{IsNear, IsNearPoint}
+use Rattle.layout_model.specs.PathBounds.{IsNearOnPath, IsNearPoint}
 use Rattle.layout_model.specs.PathLaws.{IsOutline}
 use Rattle.layout_model.specs.Paths.{direction_of, are_one, moves, same_point, is_diagonal, point_at, length_of, IsEmpty, HasEmptyEnd}
 use Rattle.layout_model.specs.Paths.{HasNoLength, IsDiagonalAt, IsTurnBackAt, IsCourse, IsDrawable, without_repeats_after, without_repeats}
@@ -198,7 +198,7 @@ segments_near m points near =
 -- ---- how far they reach
 
 pub path_outlines : (pair : Pair) (offsets : List Point) (fixed : Bool) (points : List Point) (half begin end : ℤ)
-    → All (IsWithin (2 ^ 41)) points → IsNear half → IsNear begin → IsNear end
+    → All (IsWithin (2 ^ 41)) points → IsNearOnPath half → IsNearOnPath begin → IsNearOnPath end
     → All (λ (shape : Shape). IsOutline shape.points) (drawn_path pair offsets fixed points half begin end)
 path_outlines pair offsets fixed points half begin end near h b e =
     all_outlines pair offsets fixed points half begin end (near_points points near) h b e

@@ -15,7 +15,7 @@ use Rattle.layout_model.specs.Layouts.{IsWithin}
 use Rattle.layout_model.specs.Paths.{direction_of, are_one, same_point, without_repeats_after, corners_after}
 use Rattle.layout_model.specs.Paths.{segments_of, extended, stretch, stretches, rectangle_along, rectangle_of}
 use Rattle.layout_model.specs.Paths.{rectangles, rectangle_ring, rectangle_shape, point_at}
-use Rattle.layout_model.specs.PathBounds.{IsNear, IsNearPoint, IsNearStretch}
+use Rattle.layout_model.specs.PathBounds.{IsNearOnPath, IsNearPoint, IsNearStretch}
 use Rattle.layout_model.specs.PathLaws.{IsOutline}
 use Rattle.layout_model.proofs.RectangleLemmas.{ring_on_grid}
 
@@ -58,11 +58,11 @@ module _ (P : Point → Type 0) where
 abbrev IsNearEdge : Point × Point → Type 0
 IsNearEdge edge = IsNearPoint edge.0 × IsNearPoint edge.1
 
-near_stretch : (half before after : ℤ) (edge : Point × Point) → IsNear half → IsNear before → IsNear after
+near_stretch : (half before after : ℤ) (edge : Point × Point) → IsNearOnPath half → IsNearOnPath before → IsNearOnPath after
     → IsNearEdge edge → IsNearStretch (stretch half before after edge)
 near_stretch half before after edge h b a e = record { from = e.0; to = e.1; half = h; before = b; after = a }
 
-pub near_extended : (half before end : ℤ) (segments : List (Point × Point)) → IsNear half → IsNear before → IsNear end
+pub near_extended : (half before end : ℤ) (segments : List (Point × Point)) → IsNearOnPath half → IsNearOnPath before → IsNearOnPath end
     → All IsNearEdge segments → All IsNearStretch (extended half before end segments)
 near_extended half before end [] h b e all = All-nil IsNearStretch
 near_extended half before end (s ∷ []) h b e all =
@@ -78,10 +78,10 @@ record IsFar (z : ℤ) : Type 0 where
   low : neg_ℤ (pos (2 ^ 42)) ≤ℤ z
   high : z ≤ℤ pos (2 ^ 42)
 
-less_far : (z by : ℤ) → IsNear z → IsNear by → IsFar (z -ℤ by)
+less_far : (z by : ℤ) → IsNearOnPath z → IsNearOnPath by → IsFar (z -ℤ by)
 less_far z by h k = record { low = omega (arith, ints, h.low, h.high, k.low, k.high); high = omega (arith, ints, h.low, h.high, k.low, k.high) }
 
-more_far : (z by : ℤ) → IsNear z → IsNear by → IsFar (z +ℤ by)
+more_far : (z by : ℤ) → IsNearOnPath z → IsNearOnPath by → IsFar (z +ℤ by)
 more_far z by h k = record { low = omega (arith, ints, h.low, h.high, k.low, k.high); high = omega (arith, ints, h.low, h.high, k.low, k.high) }
 
 record IsFarRectangle (r : Rectangle) : Type 0 where
@@ -151,7 +151,7 @@ outline_of s h = record {
 -- ---- the shapes of a path
 
 pub all_outlines : (pair : Pair) (offsets : List Point) (fixed : Bool) (points : List Point) (half begin end : ℤ)
-    → All IsNearPoint points → IsNear half → IsNear begin → IsNear end
+    → All IsNearPoint points → IsNearOnPath half → IsNearOnPath begin → IsNearOnPath end
     → All (λ (shape : Shape). IsOutline shape.points) (map (rectangle_shape pair offsets fixed) (rectangles points half begin end))
 all_outlines pair offsets fixed points half begin end all h b e =
     let near = near_extended half begin end (segments_of points) h b e (all_segments IsNearPoint points all) in

@@ -6,25 +6,25 @@ use Rattle.layout_model.specs.declared.stretches.Brush.{Brush}
 use Rattle.layout_model.specs.declared.rectangles.Rectangle.{Rectangle}
 
 -- at most 2^41 from 0
-pub record IsNear (z : ℤ) : Type 0 where
+pub record IsNearOnPath (z : ℤ) : Type 0 where
   pub low : neg_ℤ (pos (2 ^ 41)) ≤ℤ z
   pub high : z ≤ℤ pos (2 ^ 41)
 
 pub record IsNearPoint (p : Point) : Type 0 where
-  pub x : IsNear p.x
-  pub y : IsNear p.y
+  pub x : IsNearOnPath p.x
+  pub y : IsNearOnPath p.y
 
 pub record IsNearBrush (brush : Brush) : Type 0 where
-  pub half : IsNear brush.half
-  pub begin : IsNear brush.begin
-  pub end : IsNear brush.end
+  pub half : IsNearOnPath brush.half
+  pub begin : IsNearOnPath brush.begin
+  pub end : IsNearOnPath brush.end
 
 pub record IsNearStretch (s : Stretch) : Type 0 where
   pub from : IsNearPoint s.from
   pub to : IsNearPoint s.to
-  pub half : IsNear s.half
-  pub before : IsNear s.before
-  pub after : IsNear s.after
+  pub half : IsNearOnPath s.half
+  pub before : IsNearOnPath s.before
+  pub after : IsNearOnPath s.after
 
 -- at most 2^66 from 0
 pub record IsShort (z : ℤ) : Type 0 where

@@ -1,7 +1,7 @@
 ghost use Rattle.std.specs.Prelude.{◌≡◌, ◌≢◌, ◌^◌, ◌↔◌, ◌≤ℤ◌, ◌⊎◌, ℕ, pos, [], All, Some, IfSome, IfNone, IfOk, IsOk, IsOkAnd, Err};
 ghost use Rattle.layout_model.specs.Paths.{HasNoLength, HasLength, HasNoDiagonal, HasNoTurnBack, IsFirstDiagonal, IsFirstTurnBack, HasEmptyEnd, IsDrawable, stretches, rectangles, drawn_path};
 ghost use Rattle.layout_model.specs.Layouts.{IsWithin};
-ghost use Rattle.layout_model.specs.PathBounds.{IsNear, IsNearPoint, IsNearBrush, HasTiles};
+ghost use Rattle.layout_model.specs.PathBounds.{IsNearOnPath, IsNearPoint, IsNearBrush, HasTiles};
 ghost use Rattle.layout_model.specs.PathLaws.{SegmentsGoSomewhere, SegmentsAreAlongAxes, SegmentsTurnSquarely, RingIsClosed, RingIsOnGrid, RingWindsInside, RingWindsNotOutside, IsOutline};
 ghost use Rattle.layout_model.specs.declared.paths.PathBad.TheVariants.{NoLength, Diagonal, TurnBack, EmptyEnd, NoMemory as Wanting};
 
@@ -111,9 +111,9 @@ pub fn path_shapes(
 ) -> Result<Vec<KeptShape>, PathBad>
     requires points { All (IsWithin (2 ^ 41)) points.now }
     requires half_low { pos 0 ≤ℤ half }
-    requires half { IsNear half }
-    requires begin { IsNear begin }
-    requires end { IsNear end }
+    requires half { IsNearOnPath half }
+    requires begin { IsNearOnPath begin }
+    requires end { IsNearOnPath end }
     ensures none { half ≡ pos 0 → IsOkAnd result (λ shapes. shapes.items ≡ []) }
     ensures shapes { half ≢ pos 0 → IfOk result (λ shapes.
         shapes.items ≡ drawn_path pair offsets.now fixed points.now half begin end) }

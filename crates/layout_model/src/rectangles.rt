@@ -2,7 +2,7 @@
 ghost use Rattle.std.specs.Prelude.{◌≡◌, ◌+ℤ◌, ◌-ℤ◌, IfOk};
 ghost use Rattle.layout_model.specs.declared.directions.Direction.TheVariants.{East, West, North, South};
 ghost use Rattle.layout_model.specs.Paths.{direction_of, rectangle_along, rectangle_of, rectangle_ring, rectangle_shape};
-ghost use Rattle.layout_model.specs.PathBounds.{IsNear, IsNearStretch};
+ghost use Rattle.layout_model.specs.PathBounds.{IsNearOnPath, IsNearStretch};
 
 use crate::directions::{Direction, direction_to};
 use crate::kept::KeptShape;
@@ -23,16 +23,16 @@ pub(crate) struct Rectangle {
 }
 
 fn less(at: i64, by: i64) -> i64
-    requires at { IsNear at }
-    requires by { IsNear by }
+    requires at { IsNearOnPath at }
+    requires by { IsNearOnPath by }
     ensures { result ≡ at -ℤ by }
 {
     at - by
 }
 
 fn more(at: i64, by: i64) -> i64
-    requires at { IsNear at }
-    requires by { IsNear by }
+    requires at { IsNearOnPath at }
+    requires by { IsNearOnPath by }
     ensures { result ≡ at +ℤ by }
 {
     at + by

@@ -18,7 +18,7 @@ use Rattle.mdp_job.specs.Runs.{Run, run_of, ReadRose, WriteRose, ComesExactlyWhe
 use Rattle.mdp_job.specs.Denoted.{plan_of}
 use Rattle.mdp_job.specs.Faults.{fault_of}
 use Rattle.mdp_job.specs.Headline.{AreExact}
-use Rattle.mdp_job.specs.Certificates.{IsRefusedAt, HasNoFile, exact_report}
+use Rattle.mdp_job.specs.Certificates.{IsOutputRefusedAt, HasNoFile, exact_report}
 use Rattle.mdp_job.specs.Checking.{AreAllExact, IsHalfReported, IsAllReported, IsChecked, IsCheckAnswer, HasOutputs}
 use Rattle.job_report.specs.declared.faults.CheckFault.{CheckFault}
 use Rattle.job_report.specs.declared.faults.CheckFault.TheVariants as all
@@ -130,7 +130,7 @@ class_there (faults.Miscovered t count wanted) e = cc
 class_there (faults.TooLarge shot) e = cc
 
 refused_first : (c : Content) (layout deck : List ℕ) (place : ℕ) (fault : OutputFault)
-    (h : IsRefusedAt c layout deck place fault) → IsFirstAt (plan_of h.input) c place (class_of fault)
+    (h : IsOutputRefusedAt c layout deck place fault) → IsFirstAt (plan_of h.input) c place (class_of fault)
 refused_first c layout deck place fault h =
     let class = fault_class (plan_of h.input) place h.output c fault h.fault_is in
     record { before = classes_before h.input c layout deck place h.holds h.before; output = h.output; at = h.at; class = class.0; not_exact = class.1 }
@@ -205,7 +205,7 @@ module _ (r : Run) (input : Input) where
 -- ---- the rows
 
 module _ (r : Run) (layout deck : List ℕ) (s : Status) (top : Option (List ℕ)) (h : IsCheckAnswer r layout deck s top) where
-  refused_only : (place : ℕ) (fault : OutputFault) → s ≡ answers.No place (fault_of fault) → IsRefusedAt r.before layout deck place fault
+  refused_only : (place : ℕ) (fault : OutputFault) → s ≡ answers.No place (fault_of fault) → IsOutputRefusedAt r.before layout deck place fault
   refused_only place fault e =
       let given = no_given (IsChecked r) r layout deck s top place (fault_of fault) h e in
       let x : IsChecked r given.input (answers.No place (fault_of fault)) = subst (λ (t : Status). IsChecked r given.input t) e given.is in
@@ -222,7 +222,7 @@ module _ (r : Run) (layout deck : List ℕ) (s : Status) (top : Option (List ℕ
       }
 
   pub file_refused : (place : ℕ) (fault : OutputFault)
-      → ComesExactlyWhere (ReadRose r) s (answers.No place (fault_of fault)) (IsRefusedAt r.before layout deck place fault)
+      → ComesExactlyWhere (ReadRose r) s (answers.No place (fault_of fault)) (IsOutputRefusedAt r.before layout deck place fault)
   file_refused place fault = record {
     only = refused_only place fault;
     whenever = λ cause. elim (input_due (IsChecked r) r layout deck s top h cause.input cause.holds) [

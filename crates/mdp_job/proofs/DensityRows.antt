@@ -10,9 +10,9 @@ use Rattle.depot.proofs.ForCallers.{Rose-earlier}
 use Rattle.density_map.specs.Windows.{IsWindowSize}
 use Rattle.density_report.specs.Tables.{Table, HasTrueNumbers}
 use Rattle.density_report.specs.Texts.{tables_text}
-use Rattle.density_report.specs.Saying.{area_of as output_area, AreTables, IsSaid, IsCutShort}
+use Rattle.density_report.specs.Saying.{AreTables, IsSaid, IsDensityCutShort}
 use Rattle.density_report.proofs.ForCallers.{true_numbers}
-use Rattle.deck_plan.specs.Plans.{Planned}
+use Rattle.deck_plan.specs.Plans.{Planned, planned_area}
 use Rattle.job_input.specs.Accepted.{HoldsInput}
 use Rattle.job_input.specs.Refused.{IsWanting}
 use Rattle.job_input.specs.declared.reading.Input.{Input}
@@ -40,8 +40,8 @@ text_of_tables size input tables h are = record {
   numbers = λ k table here. (
       let inside = slice_get_within tables k table here in
       let own = are.each k (omega (arith, inside, are.count)) in
-      subst (λ (t : Table). HasTrueNumbers (output_area (plan_of input) k) size t) (same_Some own.0 table (sym own.1 ∙ here))
-      (true_numbers (output_area (plan_of input) k) size own.0 h own.2)
+      subst (λ (t : Table). HasTrueNumbers (planned_area (plan_of input) k) size t) (same_Some own.0 table (sym own.1 ∙ here))
+      (true_numbers (planned_area (plan_of input) k) size own.0 h own.2)
       );
   is = refl;
 }
@@ -52,14 +52,14 @@ counted_done p size tells b a wr input same h told said =
     let all = subst (λ (q : Planned). IsSaid q size tells b a) same said in
     (tables_text size input.deck.outputs all.tables, text_of_tables size input all.tables h all.are, all.content told)
 
-cut_by : (p : Planned) (size : ℤ) (b a : Content) (input : Input) → p ≡ plan_of input → IsWindowSize size → IsCutShort p size b a
+cut_by : (p : Planned) (size : ℤ) (b a : Content) (input : Input) → p ≡ plan_of input → IsWindowSize size → IsDensityCutShort p size b a
     → AreTablesCutShort b a size input
 cut_by p size b a input same h cut =
-    let all = subst (λ (q : Planned). IsCutShort q size b a) same cut in
+    let all = subst (λ (q : Planned). IsDensityCutShort q size b a) same cut in
     inr (tables_text size input.deck.outputs all.tables, text_of_tables size input all.tables h all.are, all.part)
 
 pub counted_cut : (p : Planned) (size : ℤ) (b a : Content) (wr : Type 0) (input : Input) (bad : DepotBad) → p ≡ plan_of input → IsWindowSize size
-    → (bad ≡ depot.Failed → wr) → IsCutShort p size b a → AreCounted b a wr size input (fault_status bad)
+    → (bad ≡ depot.Failed → wr) → IsDensityCutShort p size b a → AreCounted b a wr size input (fault_status bad)
 counted_cut p size b a wr input depot.Failed same h failed cut = (failed refl, cut_by p size b a input same h cut)
 counted_cut p size b a wr input depot.NoMemory same h failed cut = cut_by p size b a input same h cut
 

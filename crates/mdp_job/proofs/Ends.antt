@@ -13,7 +13,7 @@ use Rattle.job_words.specs.Lines.{file_word}
 use Rattle.job_report.specs.Endings.{line_of, name_of, file_of}
 use Rattle.mdp_job.specs.Parts.{CountsFor}
 use Rattle.mdp_job.specs.Table.{IsAnswerTo, NamesFile}
-use Rattle.mdp_job.specs.Clauses.{IsFileOf}
+use Rattle.mdp_job.specs.Clauses.{IsRefusedFileName}
 use Rattle.job_report.specs.declared.status.Status.{Status}
 use Rattle.job_report.specs.declared.status.Status.TheVariants as answers
 use Rattle.mdp_job.proofs.FileRows.{memory_done, write_done}
@@ -29,7 +29,7 @@ pub record Ends (tells : Bool) (b m a : Content) (o p q : Counts) (words : List 
   pub later : NeverFall p q
   pub done : s ≡ answers.Done → a ≡ m
   pub file : List ℕ
-  pub of_file : IsFileOf (run_of b a o q) words s file
+  pub of_file : IsRefusedFileName (run_of b a o q) words s file
   pub part : IsPartSaid m (line_of file (name_of top) s) a
   pub whole : ((a ≡ with_said m (line_of file (name_of top) s)) × (q ≡ p)) ⊎ Rose p.write_faults q.write_faults ⊎ Rose p.refused q.refused
   pub counts : CountsFor o p s

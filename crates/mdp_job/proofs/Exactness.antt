@@ -13,11 +13,11 @@ use Rattle.deck_text.specs.declared.deck.Output.{Output}
 use Rattle.deck_text.specs.declared.deck.Deck.{Deck}
 use Rattle.deck_text.proofs.ForCallers.{sound}
 use Rattle.deck_plan.specs.Areas.{IsInArea}
-use Rattle.shot_reader.specs.Reading.{IsFileOf, IsPairOf, Agrees}
+use Rattle.shot_reader.specs.Reading.{IsFileOf, IsPairOf, AgreesWithPair}
 use Rattle.shot_checker.specs.declared.verdicts.Verdict.TheVariants.{Exact}
 use Rattle.shot_writer.specs.declared.parts.Sums.{Sums}
 use Rattle.shot_output.specs.Files.{text_of}
-use Rattle.shot_output.specs.TileCounts.{IsNumberOfTilesIn}
+use Rattle.half_grid.specs.Sizes.{IsNumberIn}
 use Rattle.shot_output.proofs.ForCallers.{area_count}
 use Rattle.job_input.specs.Accepted.{HoldsInput}
 use Rattle.job_input.specs.declared.reading.Input.{Input}
@@ -75,7 +75,7 @@ file_sum input c k output sums at (bytes, holds, x) =
       held = holds.held ∙ ap Some text;
       number = x.sums_are.shots_are;
       triangles = x.sums_are.triangles_are;
-      tiles = subst (λ (n : ℕ). IsNumberOfTilesIn (area_of input output) n) (sym x.sums_are.triangles_are) tiles;
+      tiles = subst (λ (n : ℕ). IsNumberIn (area_of input output) n) (sym x.sums_are.triangles_are) tiles;
     }
 
 pub before_exact : (input : Input) (c : Content) (n : ℕ) (sums : List Sums) → AreExactFiles (plan_of input) c n sums → AreExactBefore c input n
@@ -105,7 +105,7 @@ pair_fits : (output : Output) (shots : List Trapezoid) → IsNarrowPair output.p
 pair_fits output [] narrow = refl
 pair_fits output (z ∷ shots) narrow = (λ e. let no : ⊥ = cc in no, narrow)
 
-pair_agrees : (output : Output) (shots : List Trapezoid) → Agrees (pair_for output shots) output.pair.layer output.pair.datatype
+pair_agrees : (output : Output) (shots : List Trapezoid) → AgreesWithPair (pair_for output shots) output.pair.layer output.pair.datatype
 pair_agrees output [] = tt
 pair_agrees output (z ∷ shots) = (refl, refl)
 

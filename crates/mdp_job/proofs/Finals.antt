@@ -9,7 +9,7 @@ use Rattle.half_grid.specs.Trapezoids.{Trapezoid}
 use Rattle.field_split.specs.Fields.{IsFieldSize}
 use Rattle.oas_lex.specs.ShotLaws.{IsNarrowPair}
 use Rattle.oas_lex.specs.ShotText.{shot_text}
-use Rattle.shot_reader.specs.Reading.{IsPairOf, Agrees, IsFileOf as IsTextFile}
+use Rattle.shot_reader.specs.Reading.{IsPairOf, AgreesWithPair, IsFileOf as IsTextFile}
 use Rattle.shot_repeat.specs.Packed.{IsPackedText, IsPackedFile}
 use Rattle.shot_repeat.proofs.ForCallers.{one_file, text_stands, text_is_file, text_is_short}
 use Rattle.job_input.specs.Accepted.{HoldsInput}
@@ -57,7 +57,7 @@ narrow_or : (pair : Option Pair) (shots : List Trapezoid) → IsPairOf pair shot
 narrow_or None shots h = record { layer_bits = omega (arith); datatype_bits = omega (arith) }
 narrow_or (Some pair) shots h = h.1
 
-agrees_or : (pair : Option Pair) → Agrees pair (pair_or pair).layer (pair_or pair).datatype
+agrees_or : (pair : Option Pair) → AgreesWithPair pair (pair_or pair).layer (pair_or pair).datatype
 agrees_or None = tt
 agrees_or (Some pair) = (refl, refl)
 
@@ -74,7 +74,7 @@ packed_is_file bytes s f short =
     (narrow_or s.pair s.shots f.pair_fits) f.legal f.pair_fits (agrees_or s.pair) (fewer_shots bytes s.unit s.pair s.shots f short)
 
 -- a file has the text of its shots with its pair, which is no shorter than their packed text
-plain_is : (unit l d : ℕ) (pair : Option Pair) (shots : List Trapezoid) → IsPairOf pair shots → Agrees pair l d
+plain_is : (unit l d : ℕ) (pair : Option Pair) (shots : List Trapezoid) → IsPairOf pair shots → AgreesWithPair pair l d
     → shot_text unit (pair_or pair).layer (pair_or pair).datatype shots ≡ shot_text unit l d shots
 unfolding shot_text
 plain_is unit l d None shots none agrees = subst (λ (zs : List Trapezoid). shot_text unit 0 0 zs ≡ shot_text unit l d zs) (sym none) refl

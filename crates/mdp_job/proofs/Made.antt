@@ -11,7 +11,7 @@ use Rattle.geo_stream.specs.declared.refusal.Refusal.TheVariants.{Fault, NoMemor
 use Rattle.deck_plan.specs.Plans.{Planned}
 use Rattle.shot_writer.specs.declared.parts.Sums.{Sums}
 use Rattle.cell_tree.specs.declared.faults.TreeBad.{TreeBad}
-use Rattle.job_input.specs.Clauses.{Answer, ComesExactlyWhere, ComesByKind}
+use Rattle.job_input.specs.Clauses.{Answer, IsReadExactlyWhere, ComesByKind}
 use Rattle.job_input.specs.declared.reading.Input.{Input}
 use Rattle.mdp_job.specs.Runs.{run_of}
 use Rattle.mdp_job.specs.Denoted.{plan_of}
@@ -54,7 +54,7 @@ made_later tells b a wr wr₁ rr rr₁ input s wider more (inr (inr (e, inr (inr
 
 -- ---- what the reading tells, later
 
-comes_later : (rr rr₁ : Type 0) (a answer : Answer) (cause : Type 0) → (rr₁ → rr) → ComesExactlyWhere rr₁ a answer cause → ComesExactlyWhere rr a answer cause
+comes_later : (rr rr₁ : Type 0) (a answer : Answer) (cause : Type 0) → (rr₁ → rr) → IsReadExactlyWhere rr₁ a answer cause → IsReadExactlyWhere rr a answer cause
 comes_later rr rr₁ a answer cause wider h = record {
   only = h.only;
   whenever = λ x. elim (h.whenever x) [

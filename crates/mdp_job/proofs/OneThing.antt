@@ -3,11 +3,11 @@ use Rattle.std.proofs.Common.{◌≡◌, ℕ, List, refl, ap, subst}
 use Rattle.depot.specs.Content.{Content, held_as, IsNotThere, IsLongerThan}
 use Rattle.depot.proofs.ForCallers.{longer_there}
 use Rattle.shot_reader.specs.Reading.{IsFileOf}
-use Rattle.shot_reader.specs.Refusals.{IsFirstFault}
+use Rattle.shot_reader.specs.Refusals.{IsFirstShotFault}
 use Rattle.shot_reader.specs.declared.refusing.ShotBad.{ShotBad}
 use Rattle.shot_reader.proofs.ForCallers.{file_right, one_fault, one_file}
 use Rattle.shot_repeat.specs.Packed.{IsPackedFile}
-use Rattle.shot_repeat.specs.Refusals.{IsFirstFault as IsFirstPackFault}
+use Rattle.shot_repeat.specs.Refusals.{IsFirstPackFault}
 use Rattle.shot_repeat.specs.declared.refusing.PackBad.{PackBad}
 use Rattle.shot_repeat.proofs.ForCallers.{file_right as packed_file_right, one_fault as one_pack_fault}
 use Rattle.mdp_job.specs.ShotFiles.{ShotData, HoldsShots, HoldsFault, HoldsPacked, HoldsPackFault, IsShotsFault, IsPackedFault}
@@ -41,7 +41,7 @@ module _ (c : Content) (file : List ℕ) where
   -- a file has one first fault
   pub same_bad : (bad other : ShotBad) → HoldsFault c file bad → HoldsFault c file other → bad ≡ other
   same_bad bad other h k =
-      one_fault k.bytes bad other (subst (λ (b : List ℕ). IsFirstFault b bad) (one_content (held_as c file) h.bytes k.bytes h.held k.held) h.fault) k.fault
+      one_fault k.bytes bad other (subst (λ (b : List ℕ). IsFirstShotFault b bad) (one_content (held_as c file) h.bytes k.bytes h.held k.held) h.fault) k.fault
 
   -- a file has one list of shots
   pub same_shots : (s t : ShotData) → HoldsShots c file s → HoldsShots c file t → s.shots ≡ t.shots

@@ -10,7 +10,7 @@ use Rattle.deck_text.specs.declared.refusal.DeckBad.{DeckBad}
 use Rattle.deck_text.specs.declared.deck.Deck.{Deck}
 use Rattle.job_input.specs.Accepted.{HoldsDeck, HoldsInput}
 use Rattle.job_input.specs.Refused.{HoldsDeckFault, IsLongLayout, HoldsGdsFault, HoldsOasFault, HoldsTreeFault, IsWanting}
-use Rattle.job_input.specs.Clauses.{Answer, ComesExactlyWhere as InputComes}
+use Rattle.job_input.specs.Clauses.{Answer, IsReadExactlyWhere as InputComes}
 use Rattle.job_input.specs.declared.reading.Input.{Input}
 use Rattle.job_input.specs.declared.refusing.InputBad.{InputBad}
 use Rattle.job_input.specs.declared.refusing.InputBad.TheVariants as bads

@@ -8,7 +8,7 @@ use Rattle.field_split.specs.Fields.{IsFieldSize, AreStripeLists}
 use Rattle.field_split.proofs.ForCallers.{one_stripe_list}
 use Rattle.field_output.specs.Stripes.{AreAllStripeLists, with_stripe_files, stripe_name, stripe_text}
 use Rattle.mdp_job.specs.ShotFiles.{ShotData}
-use Rattle.mdp_job.specs.Splitting.{head_of, AreAllMade, IsCutShort, IsPartSplit}
+use Rattle.mdp_job.specs.Splitting.{head_of, AreAllMade, IsSplitCutShort, IsPartSplit}
 use Rattle.mdp_job.specs.FieldAnswers.{IsHalfSplit}
 use Rattle.mdp_job.proofs.Ends.{unsaid, quiet_is, made_quiet, part_made_said}
 
@@ -19,7 +19,7 @@ stripes_said c base head k [] = refl
 stripes_said c base head k (pieces ∷ lists) = stripes_said (with_file c (stripe_name base k) (stripe_text head pieces)) base head (k +ℤ pos 1) lists
 
 module _ (b m : Content) (size : ℤ) (out : List ℕ) (s : ShotData) where
-  pub cut_said : IsCutShort b m size out s → m.said ≡ b.said
+  pub cut_said : IsSplitCutShort b m size out s → m.said ≡ b.said
   cut_said cut =
       let w = cut.files in
       part_made_said (with_stripe_files b out (head_of s) cut.first w.whole) m _ _ w.files ∙ stripes_said b out (head_of s) cut.first w.whole
@@ -39,7 +39,7 @@ pub half_quiet : (b m a : Content) (size : ℤ) (out : List ℕ) (s : ShotData) 
     → IsPartSplit (with_left b []) (unsaid b a) size out s
 half_quiet b m a size out s x (inl cut) e =
     let quiet = quiet_is b m a x (cut_said (with_left b []) m size out s cut) e in
-    inl (subst (λ (c : Content). IsCutShort (with_left b []) c size out s) (sym quiet) cut)
+    inl (subst (λ (c : Content). IsSplitCutShort (with_left b []) c size out s) (sym quiet) cut)
 half_quiet b m a size out s x (inr (c, text, all, (n, few, f))) e = inr (text, all_quiet b c m a size out s text (take n text) x all f e)
 
 -- ---- there is one list of stripe lists

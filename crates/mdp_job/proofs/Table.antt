@@ -20,7 +20,7 @@ use Rattle.job_report.specs.Endings.{name_of, file_of, file_at, file_or}
 use Rattle.mdp_job.specs.Certificates.{IsFileAt}
 use Rattle.mdp_job.specs.Clauses.{IsInputOf, IsAccepted, IsUnreadableBy, IsUnreadable, IsUnreadableAtOnceBy, ReadFaults, WriteFaults, DeckLong}
 use Rattle.mdp_job.specs.Clauses.{DeckBroken, LayoutLong, GdsBroken, OasBroken, TreeBroken, FileRefused, ReadsFile, ShotsLong, ShotsBad}
-use Rattle.mdp_job.specs.Clauses.{PackedBad, SplitWide, SplitStripes, Acceptance, Refusals, IsTopOf, IsFileOf, Belongs}
+use Rattle.mdp_job.specs.Clauses.{PackedBad, SplitWide, SplitStripes, Acceptance, Refusals, IsTopOf, IsRefusedFileName, Belongs}
 use Rattle.job_report.specs.declared.faults.CheckFault.TheVariants as faults
 use Rattle.job_report.specs.declared.status.Status.{Status}
 use Rattle.job_report.specs.declared.status.Status.TheVariants as answers
@@ -449,7 +449,7 @@ word_is words name (inl (inr (inr (size, out, is)))) = ap file_word is.are
 word_is words name (inr (out, is)) = ap file_word is.are
 
 pub file_named : (before now : Content) (o p : Counts) (words : List (List ℕ)) (s : Status)
-    (outputs : Option (List Output)) → NamesFile before words s outputs → IsFileOf (run_of before now o p) words s (file_of (file_word words) outputs s)
+    (outputs : Option (List Output)) → NamesFile before words s outputs → IsRefusedFileName (run_of before now o p) words s (file_of (file_word words) outputs s)
 file_named before now o p words s outputs h = record {
   check = λ layout deck is place fault e.
       let x = h.check layout deck is place fault e in

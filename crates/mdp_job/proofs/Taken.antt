@@ -11,9 +11,9 @@ use Rattle.oas_lex.specs.Spelling.{groups, unsigned_text, signed_text, signed_co
 use Rattle.oas_lex.specs.declared.fields.ShotFields.{ShotFields}
 use Rattle.oas_lex.proofs.ForCallers.{text_opens, spelling_is}
 use Rattle.shot_reader.specs.Reading.{IsFileOf}
-use Rattle.shot_reader.specs.Refusals.{IsFirstFault}
+use Rattle.shot_reader.specs.Refusals.{IsFirstShotFault}
 use Rattle.shot_reader.specs.declared.refusing.ShotBad.{ShotBad}
-use Rattle.shot_repeat.specs.Refusals.{IsFirstFault as IsFirstPackFault}
+use Rattle.shot_repeat.specs.Refusals.{IsFirstPackFault}
 use Rattle.shot_repeat.specs.declared.refusing.PackBad.{PackBad}
 use Rattle.mdp_job.specs.Runs.{run_of, IsEndedSo}
 use Rattle.mdp_job.specs.ShotFiles.{ShotData, IsShotsFault, IsPackedFault}
@@ -42,7 +42,7 @@ made_answers command b m a o n p file s result holds rest same made = inl (
 
 module _ (b a : Content) (o p : Counts) (file bytes : List ℕ) (held : held_as b file ≡ Some bytes)
     (short : length bytes ≤ 268435456) (rest : a ≡ with_left b []) where
-  pub shots_refused : (bad : ShotBad) → IsFirstFault bytes bad → IsRefusedFile IsShotsFault (run_of b a o p) file (answers.No 0 (faults.Bad bad))
+  pub shots_refused : (bad : ShotBad) → IsFirstShotFault bytes bad → IsRefusedFile IsShotsFault (run_of b a o p) file (answers.No 0 (faults.Bad bad))
   shots_refused bad fault = inl (faults.Bad bad, refl, record { bytes = bytes; held = held; short = short; fault = fault }, left_only b a rest)
 
   pub packed_refused : (bad : PackBad) → IsFirstPackFault bytes bad → IsRefusedFile IsPackedFault (run_of b a o p) file (answers.No 0 (faults.Pack bad))

@@ -15,10 +15,10 @@ use Rattle.deck_text.specs.declared.deck.Output.{Output}
 use Rattle.deck_text.specs.declared.deck.Deck.{Deck}
 use Rattle.deck_plan.specs.Areas.{IsInArea}
 use Rattle.shot_output.specs.ShotLists.{IsShotList}
-use Rattle.shot_output.specs.TileCounts.{IsNumberOfTilesIn}
+use Rattle.half_grid.specs.Sizes.{IsNumberIn}
 use Rattle.shot_output.specs.Laws.{HasRules}
 use Rattle.shot_output.proofs.ForCallers.{has_rules, shots_are_legal, shots_fit, shots_cover, shots_are_few, triangles_are_tiles}
-use Rattle.shot_output.specs.Files.{rules_of, text_of, IsTextOf, IsWhole, OnlyFilesOf, IsPartOf, AreCutShort}
+use Rattle.shot_output.specs.Files.{rules_of, text_of, IsTextOf, IsWholeOutput, OnlyFilesOf, IsPartOf, AreCutShort}
 use Rattle.job_input.specs.declared.reading.Input.{Input}
 use Rattle.mdp_job.specs.Denoted.{plan_of, area_of, ChangesOnly}
 use Rattle.mdp_job.specs.Headline.{AreCovered}
@@ -36,7 +36,7 @@ area_at input o t = IsSomeAnd o (λ output. IsInArea input.tree.layout.cells inp
 
 pub whole_covered : (tells : Bool) (input : Input) (now : Content) (k : ℕ) (output : Output) (sum : Sums) → IsTrue tells
     → HasRules input.deck → slice_get input.deck.outputs k ≡ Some output
-    → IsWhole (plan_of input) k tells now sum → IsCovered now.made input output
+    → IsWholeOutput (plan_of input) k tells now sum → IsCovered now.made input output
 whole_covered tells input now k output sum told rules e w = (
   text_of input.deck output w.shots,
   w.holds output e told,
@@ -51,7 +51,7 @@ whole_covered tells input now k output sum told rules e w = (
 
 whole_economic : (tells : Bool) (input : Input) (now : Content) (k : ℕ) (output : Output) (sum : Sums) → IsTrue tells
     → HasRules input.deck → slice_get input.deck.outputs k ≡ Some output
-    → IsWhole (plan_of input) k tells now sum → IsEconomic now.made input output
+    → IsWholeOutput (plan_of input) k tells now sum → IsEconomic now.made input output
 whole_economic tells input now k output sum told rules e w = record {
   shots = w.shots;
   made = w.holds output e told;
@@ -62,17 +62,17 @@ whole_economic tells input now k output sum told rules e w = record {
 
 whole_summed : (tells : Bool) (input : Input) (now : Content) (k : ℕ) (output : Output) (sum : Sums) → IsTrue tells
     → HasRules input.deck → slice_get input.deck.outputs k ≡ Some output
-    → IsWhole (plan_of input) k tells now sum → IsSummed now.made input output sum
+    → IsWholeOutput (plan_of input) k tells now sum → IsSummed now.made input output sum
 whole_summed tells input now k output sum told rules e w =
-    let tiles : IsNumberOfTilesIn (area_of input output) (triangles_of w.shots) =
-    subst (λ (o : Option Output). IsNumberOfTilesIn (area_at input o) (triangles_of w.shots)) e (triangles_are_tiles (plan_of input) k w.shots rules w.list) in
+    let tiles : IsNumberIn (area_of input output) (triangles_of w.shots) =
+    subst (λ (o : Option Output). IsNumberIn (area_at input o) (triangles_of w.shots)) e (triangles_are_tiles (plan_of input) k w.shots rules w.list) in
     let triangles : sum.triangles ≡ triangles_of w.shots = omega (arith, w.summed.triangles) in
     record {
       shots = w.shots;
       made = w.holds output e told;
       number = omega (arith, w.summed.shots);
       triangles = triangles;
-      tiles = subst (λ (n : ℕ). IsNumberOfTilesIn (area_of input output) n) (sym triangles) tiles;
+      tiles = subst (λ (n : ℕ). IsNumberIn (area_of input output) n) (sym triangles) tiles;
     }
 
 -- ---- all outputs

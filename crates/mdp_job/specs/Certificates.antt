@@ -10,10 +10,10 @@ use Rattle.deck_text.specs.declared.deck.Output.{Output}
 use Rattle.shot_writer.specs.Writing.{triangles_of}
 use Rattle.shot_writer.specs.declared.parts.Sums.{Sums}
 use Rattle.shot_output.specs.Files.{text_of}
-use Rattle.shot_output.specs.TileCounts.{IsNumberOfTilesIn}
+use Rattle.half_grid.specs.Sizes.{IsNumberIn}
 use Rattle.job_input.specs.Accepted.{HoldsInput}
 use Rattle.job_input.specs.declared.reading.Input.{Input}
-use Rattle.file_check.specs.Files.{IsFaultOf}
+use Rattle.file_check.specs.Files.{IsCheckFaultOf}
 use Rattle.file_check.specs.declared.faults.CheckFault.{CheckFault as OutputFault}
 use Rattle.mdp_job.specs.Denoted.{plan_of, area_of}
 use Rattle.mdp_job.specs.Headline.{IsShotFile}
@@ -33,13 +33,13 @@ AreExactBefore c input place = (k : ℕ) (output : Output) → k < place → sli
 
 -- deck and layout are accepted, the files of the outputs before this place are exact, and this is why that of the output
 -- there isn't
-pub record IsRefusedAt (c : Content) (layout deck : List ℕ) (place : ℕ) (fault : OutputFault) : Type 0 where
+pub record IsOutputRefusedAt (c : Content) (layout deck : List ℕ) (place : ℕ) (fault : OutputFault) : Type 0 where
   pub input : Input
   pub holds : HoldsInput c layout deck input
   pub before : AreExactBefore c input place
   pub output : Output
   pub at : slice_get input.deck.outputs place ≡ Some output
-  pub fault_is : IsFaultOf (plan_of input) place output c fault
+  pub fault_is : IsCheckFaultOf (plan_of input) place output c fault
 
 -- deck and layout are accepted, the files of the outputs before some place are exact, and that of the output there isn't
 -- there
@@ -69,7 +69,7 @@ pub record IsExactSum (c : Content) (input : Input) (output : Output) (sum : Sum
   pub held : held_as c output.file ≡ Some (text_of input.deck output shots)
   pub number : sum.shots ≡ length shots
   pub triangles : sum.triangles ≡ triangles_of shots
-  pub tiles : IsNumberOfTilesIn (area_of input output) sum.triangles
+  pub tiles : IsNumberIn (area_of input output) sum.triangles
 
 -- each output has its sum
 pub record AreExactSums (c : Content) (input : Input) (sums : List Sums) : Type 0 where

@@ -28,9 +28,9 @@ use Rattle.job_words.specs.Words.{IsFracture, IsCheck, IsShots, IsPack, IsUnpack
 use Rattle.mdp_job.specs.Runs.{Run, ReadRose, WriteRose, RefusedRose, ComesExactlyWhere}
 use Rattle.mdp_job.specs.Headline.{AreCovered, AreExact, Covers, Accepts}
 use Rattle.mdp_job.specs.Outputs.{AreEconomic, IsReported, AreSummed, AreSpoiled, report_on}
-use Rattle.mdp_job.specs.Certificates.{IsRefusedAt, HasNoFile, IsFileAt, AreExactSums, exact_report, IsExactReported}
+use Rattle.mdp_job.specs.Certificates.{IsOutputRefusedAt, HasNoFile, IsFileAt, AreExactSums, exact_report, IsExactReported}
 use Rattle.mdp_job.specs.ShotFiles.{ShotData, HoldsShots, HoldsPacked, HoldsFault, HoldsPackFault, listed, packed_of, packed_said, plain_of, unpacked_said, IsGivenBack}
-use Rattle.mdp_job.specs.Splitting.{HoldsFields, HoldsWide, HoldsManyStripes, AreAllMade, IsSplit, IsPartSplit}
+use Rattle.mdp_job.specs.Splitting.{HoldsFields, HoldsWide, HoldsManyStripes, AreAllMade, IsSplitWhole, IsPartSplit}
 use Rattle.mdp_job.specs.Keeping.{AreKept}
 use Rattle.mdp_job.specs.Densities.{IsDensityText, AreTablesSaid}
 use Rattle.mdp_job.specs.Filing.{IsFiled}
@@ -138,7 +138,7 @@ Unpacks r words result =
 abbrev pub Splits : Run → List (List ℕ) → Status → Type 0
 Splits r words result =
     (size : ℕ) (file out : List ℕ) → IsSplitting words size file out → result ≡ answers.Done
-    → (s : ShotData) × HoldsFields (pos size) r.before file s × (split : IsSplit (with_left r.before []) r.after (pos size) out s)
+    → (s : ShotData) × HoldsFields (pos size) r.before file s × (split : IsSplitWhole (with_left r.before []) r.after (pos size) out s)
     × AreKept (pos size) s.shots split.all.first split.all.lists
 
 -- `covers`: what commands make
@@ -238,7 +238,7 @@ SplitStripes r words result =
 abbrev pub FileRefused : Run → List (List ℕ) → Status → ℕ → OutputFault → Type 0
 FileRefused r words result place fault =
     (layout deck : List ℕ) → IsCheck words layout deck
-    → ComesExactlyWhere (ReadRose r) result (answers.No place (fault_of fault)) (IsRefusedAt r.before layout deck place fault)
+    → ComesExactlyWhere (ReadRose r) result (answers.No place (fault_of fault)) (IsOutputRefusedAt r.before layout deck place fault)
 
 -- the file has more than 268,435,456 bytes
 abbrev pub FileLong : Run → List (List ℕ) → Status → Type 0
@@ -375,7 +375,7 @@ IsTopOf r words result top =
     → (d : Deck) × HoldsDeck r.before layout deck d × (top ≡ d.top)
 
 -- the name that the line of a refused shot file gives is that of the file: of the refused output for `check`, and else FILE
-pub record IsFileOf (r : Run) (words : List (List ℕ)) (result : Status) (file : List ℕ) : Type 0 where
+pub record IsRefusedFileName (r : Run) (words : List (List ℕ)) (result : Status) (file : List ℕ) : Type 0 where
   pub check : (layout deck : List ℕ) → IsCheck words layout deck → (place : ℕ) (fault : CheckFault) → result ≡ answers.No place fault
       → IsFileAt r.before layout deck place file
   pub read : (name : List ℕ) → ReadsFile words name → file ≡ name
@@ -395,7 +395,7 @@ pub record SaysLine (r : Run) (words : List (List ℕ)) (result : Status) : Type
   pub top : List ℕ
   pub named : IsTopOf r words result top
   pub file : List ℕ
-  pub of_file : IsFileOf r words result file
+  pub of_file : IsRefusedFileName r words result file
   pub of_text : ℕ
   pub of_line : ℕ
   pub said : r.after.said ≡ (r.before.said ++ take of_text text) ++ take of_line (line_of file top result)
@@ -436,8 +436,8 @@ IsQuietCommand (Split size file out) = ⊥
 IsQuietCommand (Density size layout deck) = ⊤
 IsQuietCommand (Generate n file) = ⊥
 
-abbrev pub Keeps : Run → List (List ℕ) → Type 0
-Keeps r words = (command : Command) → AreWordsOf words command → IsQuietCommand command → ChangesLeftOnly r.before (quiet r).after
+abbrev pub KeepsFiles : Run → List (List ℕ) → Type 0
+KeepsFiles r words = (command : Command) → AreWordsOf words command → IsQuietCommand command → ChangesLeftOnly r.before (quiet r).after
 
 -- What a write fault or want of memory leaves, but for what was said. Of a command that reads, nothing but what is left to
 -- be read has changed, or:
@@ -486,7 +486,7 @@ pub record Spoils (r : Run) (words : List (List ℕ)) (result : Status) : Type 0
 -- `leaves`: what stays
 pub record Remains (r : Run) (words : List (List ℕ)) (result : Status) : Type 0 where
   pub refusals : Refuses r result
-  pub keeps : Keeps r words
+  pub keeps : KeepsFiles r words
   pub spoiled : Spoils r words result
 
 -- ---- what holds over every depot

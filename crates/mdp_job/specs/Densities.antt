@@ -4,13 +4,14 @@ use Rattle.std.specs.Prelude.{◌≡◌, ◌⊎◌, ℕ, ℤ, List, [], length, 
 use Rattle.depot.specs.Content.{Content, with_left, with_said, IsPartSaid}
 use Rattle.density_report.specs.Tables.{Table, HasTrueNumbers}
 use Rattle.density_report.specs.Texts.{tables_text}
-use Rattle.density_report.specs.Saying.{area_of as output_area, AreTables}
+use Rattle.density_report.specs.Saying.{AreTables}
 use Rattle.job_input.specs.declared.reading.Input.{Input}
 use Rattle.mdp_job.specs.Runs.{Run, WriteRose}
 use Rattle.mdp_job.specs.Denoted.{plan_of}
 use Rattle.mdp_job.specs.Parts.{IsAnswerBy}
 use Rattle.job_report.specs.declared.status.Status.{Status}
 use Rattle.job_report.specs.declared.status.Status.TheVariants as answers
+use Rattle.deck_plan.specs.Plans.{planned_area}
 
 -- The text is that of the table of each output's area, in the order of the deck. Each number in a table is that of the
 -- area's triangles in its window, they add up to the number of the area's triangles, and no window has more than the one
@@ -18,7 +19,7 @@ use Rattle.job_report.specs.declared.status.Status.TheVariants as answers
 pub record IsDensityText (size : ℤ) (input : Input) (text : List ℕ) : Type 0 where
   pub tables : List Table
   pub are : AreTables (plan_of input) size (length input.deck.outputs) tables
-  pub numbers : (k : ℕ) (table : Table) → slice_get tables k ≡ Some table → HasTrueNumbers (output_area (plan_of input) k) size table
+  pub numbers : (k : ℕ) (table : Table) → slice_get tables k ≡ Some table → HasTrueNumbers (planned_area (plan_of input) k) size table
   pub is : text ≡ tables_text size input.deck.outputs tables
 
 -- the tables were said, and nothing else has changed

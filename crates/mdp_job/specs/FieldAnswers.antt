@@ -6,7 +6,7 @@ use Rattle.depot.specs.Content.{Content, IsPartSaid}
 use Rattle.field_split.specs.Looks.{IsFieldShot, IsFirstTooWide, AreStripesOf}
 use Rattle.mdp_job.specs.Runs.{IsEndedSo}
 use Rattle.mdp_job.specs.ShotFiles.{ShotData}
-use Rattle.mdp_job.specs.Splitting.{CanBeSplit, AreManyStripes, AreAllMade, IsSplit, IsCutShort}
+use Rattle.mdp_job.specs.Splitting.{CanBeSplit, AreManyStripes, AreAllMade, IsSplitWhole, IsSplitCutShort}
 use Rattle.job_report.specs.declared.faults.CheckFault.{CheckFault}
 use Rattle.job_report.specs.declared.faults.CheckFault.TheVariants.{Long, Bad, Head, Miscovered, TooLarge, Pack, Wide, Stripes}
 use Rattle.job_report.specs.declared.status.Status.{Status}
@@ -31,13 +31,13 @@ IsSpanFault size shots (Stripes value) = All IsFieldShot shots × AreManyStripes
 -- the making of the files was cut short, or all are made and a prefix of their lines was said
 abbrev pub IsHalfSplit : Content → Content → ℤ → List ℕ → ShotData → Type 0
 IsHalfSplit before now size out s =
-    IsCutShort before now size out s
+    IsSplitCutShort before now size out s
     ⊎ ((made : Content) × (text : List ℕ) × AreAllMade before made size out s text × IsPartSaid made text now)
 
 -- what holds where the splitting of shots that can be split gives the answer: memory may be wanting before a file is begun
 abbrev pub IsSplitSo : Content → Content → (write_rose refused_rose : Type 0) → ℤ → List ℕ → ShotData → Status → Type 0
 IsSplitSo before now write_rose refused_rose size out s result =
-    IsEndedSo write_rose refused_rose (IsSplit before now size out s) (IsHalfSplit before now size out s) result
+    IsEndedSo write_rose refused_rose (IsSplitWhole before now size out s) (IsHalfSplit before now size out s) result
     ⊎ ((result ≡ answers.NoMemory) × (now ≡ before))
 
 -- the same of an accepted shot file, which may be one that can't be split

@@ -8,7 +8,7 @@ use Rattle.shot_writer.specs.Writing.{triangles_of}
 use Rattle.shot_writer.specs.declared.parts.Sums.{Sums}
 use Rattle.deck_text.specs.declared.deck.Output.{Output}
 use Rattle.shot_output.specs.ShotLists.{IsShotList}
-use Rattle.shot_output.specs.TileCounts.{IsNumberOfTilesIn}
+use Rattle.half_grid.specs.Sizes.{IsNumberIn}
 use Rattle.shot_output.specs.Files.{rules_of, text_of}
 use Rattle.job_input.specs.declared.reading.Input.{Input}
 use Rattle.job_report.specs.Report.{report}
@@ -41,7 +41,7 @@ pub record IsSummed (files : Files) (input : Input) (output : Output) (sum : Sum
   pub made : get files output.file ≡ Some (text_of input.deck output shots)
   pub number : sum.shots ≡ length shots
   pub triangles : sum.triangles ≡ triangles_of shots
-  pub tiles : IsNumberOfTilesIn (area_of input output) sum.triangles
+  pub tiles : IsNumberIn (area_of input output) sum.triangles
 
 -- each output has its sum
 pub record AreSummed (files : Files) (input : Input) (sums : List Sums) : Type 0 where

@@ -17,7 +17,7 @@ use Rattle.shot_writer.specs.declared.parts.Sums.{Sums}
 use Rattle.shot_output.specs.Files.{AreWritten, AreCutShort}
 use Rattle.job_input.specs.Accepted.{HoldsInput}
 use Rattle.job_input.specs.Refused.{HoldsDeckFault, IsLongLayout, HoldsGdsFault, HoldsOasFault, HoldsTreeFault, IsWanting}
-use Rattle.job_input.specs.Clauses.{Answer, ComesExactlyWhere, ComesByKind}
+use Rattle.job_input.specs.Clauses.{Answer, IsReadExactlyWhere, ComesByKind}
 use Rattle.job_input.specs.declared.reading.Input.{Input}
 use Rattle.job_input.specs.declared.refusing.InputBad.{InputBad}
 use Rattle.job_input.specs.declared.refusing.InputBad.TheVariants as bads
@@ -65,15 +65,15 @@ IsSaidSo before now write_rose refused_rose text result =
 
 -- what the reading of deck and layout tells of its answer
 pub record IsInputTold (before : Content) (read_rose refused_rose : Type 0) (layout deck : List ℕ) (a : Answer) : Type 0 where
-  pub given : (input : Input) → ComesExactlyWhere read_rose a (Ok input) (HoldsInput before layout deck input)
-  pub deck_long : ComesExactlyWhere read_rose a (Err (Fault (bads.Deck deck_faults.Long))) (IsLongerThan 65536 before deck)
-  pub deck_bad : (bad : DeckBad) → ComesExactlyWhere read_rose a (Err (Fault (bads.Deck (deck_faults.Bad bad)))) (HoldsDeckFault before layout deck bad)
+  pub given : (input : Input) → IsReadExactlyWhere read_rose a (Ok input) (HoldsInput before layout deck input)
+  pub deck_long : IsReadExactlyWhere read_rose a (Err (Fault (bads.Deck deck_faults.Long))) (IsLongerThan 65536 before deck)
+  pub deck_bad : (bad : DeckBad) → IsReadExactlyWhere read_rose a (Err (Fault (bads.Deck (deck_faults.Bad bad)))) (HoldsDeckFault before layout deck bad)
   pub layout_long : (top : List ℕ)
-      → ComesExactlyWhere read_rose a (Err (Fault (bads.Layout layout_faults.Long top))) (IsLongLayout before layout deck top)
+      → IsReadExactlyWhere read_rose a (Err (Fault (bads.Layout layout_faults.Long top))) (IsLongLayout before layout deck top)
   pub layout_gds : (bad : GdsBad) (top : List ℕ)
-      → ComesExactlyWhere read_rose a (Err (Fault (bads.Layout (layout_faults.Gds bad) top))) (HoldsGdsFault before layout deck bad top)
+      → IsReadExactlyWhere read_rose a (Err (Fault (bads.Layout (layout_faults.Gds bad) top))) (HoldsGdsFault before layout deck bad top)
   pub layout_oas : (bad : OasBad) (top : List ℕ)
-      → ComesExactlyWhere read_rose a (Err (Fault (bads.Layout (layout_faults.Oas bad) top))) (HoldsOasFault before layout deck bad top)
+      → IsReadExactlyWhere read_rose a (Err (Fault (bads.Layout (layout_faults.Oas bad) top))) (HoldsOasFault before layout deck bad top)
   pub layout_tree : (bad : TreeBad) (top : List ℕ) → ComesByKind read_rose a bad top (HoldsTreeFault before layout deck bad top)
   pub read_fault : a ≡ Err (Fault bads.ReadFault) → read_rose ⊎ IsWanting before layout deck
   pub missing : IsWanting before layout deck → (a ≡ Err (Fault bads.ReadFault)) ⊎ (a ≡ Err NoMemory)

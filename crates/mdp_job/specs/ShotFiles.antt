@@ -4,12 +4,12 @@ use Rattle.depot.specs.Content.{Content, held_as, IsLongerThan}
 use Rattle.layout_model.specs.declared.pair.Pair.{Pair}
 use Rattle.oas_lex.specs.ShotText.{shot_text}
 use Rattle.shot_reader.specs.Reading.{IsFileOf}
-use Rattle.shot_reader.specs.Refusals.{IsFirstFault}
+use Rattle.shot_reader.specs.Refusals.{IsFirstShotFault}
 use Rattle.shot_reader.specs.declared.refusing.ShotBad.{ShotBad}
 use Rattle.shot_listing.specs.Listing.{listing}
 use Rattle.shot_repeat.specs.Packed.{IsPackedFile}
 use Rattle.shot_repeat.specs.Packing.{packed_text, packed_records}
-use Rattle.shot_repeat.specs.Refusals.{IsFirstFault as IsFirstPackFault}
+use Rattle.shot_repeat.specs.Refusals.{IsFirstPackFault}
 use Rattle.shot_repeat.specs.declared.refusing.PackBad.{PackBad}
 pub use Rattle.file_check.specs.Files.{ShotData}
 use Rattle.job_report.specs.declared.faults.CheckFault.{CheckFault}
@@ -29,7 +29,7 @@ pub record HoldsFault (c : Content) (file : List ℕ) (bad : ShotBad) : Type 0 w
   pub bytes : List ℕ
   pub held : held_as c file ≡ Some bytes
   pub short : length bytes ≤ 268435456
-  pub fault : IsFirstFault bytes bad
+  pub fault : IsFirstShotFault bytes bad
 
 -- the name holds a packed shot file of this unit, this pair and these shots
 pub record HoldsPacked (c : Content) (file : List ℕ) (s : ShotData) : Type 0 where

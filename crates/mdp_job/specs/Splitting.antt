@@ -104,7 +104,7 @@ pub record AreAllMade (before now : Content) (size : ℤ) (out : List ℕ) (s : 
   pub lines : text ≡ split_text first lists
 
 -- the files of all stripes are made, and then their lines were said
-pub record IsSplit (before now : Content) (size : ℤ) (out : List ℕ) (s : ShotData) : Type 0 where
+pub record IsSplitWhole (before now : Content) (size : ℤ) (out : List ℕ) (s : ShotData) : Type 0 where
   pub made : Content
   pub text : List ℕ
   pub all : AreAllMade before made size out s text
@@ -112,7 +112,7 @@ pub record IsSplit (before now : Content) (size : ℤ) (out : List ℕ) (s : Sho
 
 -- The making of the files was cut short: those of the stripes below some stripe are whole, its own is as before or holds a
 -- prefix of its text, and those above it are as before.
-pub record IsCutShort (before now : Content) (size : ℤ) (out : List ℕ) (s : ShotData) : Type 0 where
+pub record IsSplitCutShort (before now : Content) (size : ℤ) (out : List ℕ) (s : ShotData) : Type 0 where
   pub first : ℤ
   pub last : ℤ
   pub stripes : AreStripesOf size s.shots first last
@@ -120,4 +120,4 @@ pub record IsCutShort (before now : Content) (size : ℤ) (out : List ℕ) (s : 
 
 -- or all are whole
 abbrev pub IsPartSplit : Content → Content → ℤ → List ℕ → ShotData → Type 0
-IsPartSplit before now size out s = IsCutShort before now size out s ⊎ ((text : List ℕ) × AreAllMade before now size out s text)
+IsPartSplit before now size out s = IsSplitCutShort before now size out s ⊎ ((text : List ℕ) × AreAllMade before now size out s text)

@@ -5,7 +5,7 @@ use Rattle.deck_text.specs.declared.deck.Output.{Output}
 use Rattle.job_words.specs.Words.{Command, Fracture, Check, Shots, Pack, Unpack, Split, Density, Generate, AreWordsOf, IsNoCommand, IsCheck}
 use Rattle.mdp_job.specs.Runs.{Run, WriteRose, RefusedRose}
 use Rattle.mdp_job.specs.ShotFiles.{HoldsShots, HoldsPacked, IsShotsFault, IsPackedFault, listed, packed_of, packed_said, plain_of, unpacked_said}
-use Rattle.mdp_job.specs.Splitting.{HoldsFields, IsFieldsFault, IsSplit}
+use Rattle.mdp_job.specs.Splitting.{HoldsFields, IsFieldsFault, IsSplitWhole}
 use Rattle.mdp_job.specs.Densities.{IsDensityAnswer}
 use Rattle.mdp_job.specs.Filing.{IsFiled, IsHalfFiled}
 use Rattle.mdp_job.specs.FieldAnswers.{IsHalfSplit}
@@ -48,7 +48,7 @@ abbrev pub splitting_command : ℤ → List ℕ → FileCommand
 splitting_command size out = record {
   holds = λ c file s. HoldsFields size c file s;
   faulty = λ c file fault. IsFieldsFault size c file fault;
-  done = λ before now s. IsSplit before now size out s;
+  done = λ before now s. IsSplitWhole before now size out s;
   half = λ before now s. IsHalfSplit before now size out s;
 }
 

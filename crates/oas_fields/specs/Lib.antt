@@ -1,5 +1,5 @@
 -- ---- what is promised, in reading order
-pub mod Writes
 pub mod Values
+pub mod Writes
 -- ---- what is kept inside
 pub mod Steps

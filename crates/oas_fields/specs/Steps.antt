@@ -16,7 +16,7 @@ value_or (Some a) before = a
 abbrev pub height_by : Written → Option ℕ → Option ℕ
 height_by written width = if written.is_square then width else written.height
 
-pub record IsNear (z : ℤ) : Type 0 where
+pub record IsNearCoordinate (z : ℤ) : Type 0 where
   pub low : neg_ℤ (pos (2 ^ 100)) ≤ℤ z
   pub high : z ≤ℤ pos (2 ^ 100)
 

@@ -1,6 +1,6 @@
 //! Positions.
 ghost use Rattle.std.specs.Prelude.{◌≡◌, ◌^◌};
-ghost use Rattle.oas_fields.specs.Steps.{IsNear, coordinate_moved, place_moved};
+ghost use Rattle.oas_fields.specs.Steps.{IsNearCoordinate, coordinate_moved, place_moved};
 ghost use Rattle.oas_fields.specs.Values.{IsPlaceWithin};
 
 /// A position, in grid steps.
@@ -24,7 +24,7 @@ pub(crate) struct Step {
 // A coordinate with what is written of it.
 #[inline(always)]
 fn coordinate(is_relative: bool, written: Option<i64>, before: i128) -> i128
-    requires { IsNear before }
+    requires { IsNearCoordinate before }
     ensures { result ≡ coordinate_moved is_relative written before }
 {
     match written {

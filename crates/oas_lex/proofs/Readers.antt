@@ -9,7 +9,7 @@ use Rattle.std.specs.Result.{IsErr, IsErrAnd, IfOk, IfErr}
 use Rattle.half_grid.specs.declared.plane.Point.{Point}
 use Rattle.oas_lex.specs.declared.reals.Real.{Real}
 use Rattle.oas_lex.specs.Deltas.{move, towards, sideways, HasDelta2, HasDelta3, HasDeltaG, DeltaGFails}
-use Rattle.oas_lex.specs.Reals.{RealForm, OneNumber, TwoNumbers, FourBytes, EightBytes, form_of, HasOneNumber, HasBits, HasParts, HasReal, PartsFail, RealFails}
+use Rattle.oas_lex.specs.Reals.{RealForm, OneNumber, TwoNumbers, FourBytes, EightBytes, form_of, HasOneNumber, HasBits, HasRealParts, HasReal, RealPartsFail, RealFails}
 use Rattle.oas_lex.specs.Strings.{HasBytes, HasText, NumberFails, BytesFail, TextFails}
 use Rattle.oas_lex.proofs.Reading.{has_one, has_not_wide, ends_not_has, ends_not_wide, unsigned_of_signed}
 use Rattle.oas_lex.proofs.SpellingLemmas.{one_signed}
@@ -235,8 +235,8 @@ bits bytes at count = record {
 }
 
 two_numbers : (bytes : List ℕ) (at : ℕ)
-    → IsReader (λ (v : (ℕ × ℕ) × ℕ). HasParts (Some TwoNumbers) bytes at v.0.0 v.0.1 v.1)
-    (PartsFail (Some TwoNumbers) bytes at)
+    → IsReader (λ (v : (ℕ × ℕ) × ℕ). HasRealParts (Some TwoNumbers) bytes at v.0.0 v.0.1 v.1)
+    (RealPartsFail (Some TwoNumbers) bytes at)
 two_numbers bytes at =
     let both = after (HasUnsigned bytes at) (NumberFails bytes at)
     (λ a mid (v : (ℕ × ℕ) × ℕ). (a ≡ v.0.0) × HasUnsigned bytes mid v.0.1 v.1)
@@ -255,7 +255,7 @@ two_numbers bytes at =
     }
 
 parts_reader : (form : Option RealForm) (bytes : List ℕ) (at : ℕ)
-    → IsReader (λ (v : (ℕ × ℕ) × ℕ). HasParts form bytes at v.0.0 v.0.1 v.1) (PartsFail form bytes at)
+    → IsReader (λ (v : (ℕ × ℕ) × ℕ). HasRealParts form bytes at v.0.0 v.0.1 v.1) (RealPartsFail form bytes at)
 parts_reader (Some OneNumber) bytes at = one_number bytes at
 parts_reader (Some TwoNumbers) bytes at = two_numbers bytes at
 parts_reader (Some FourBytes) bytes at = bits bytes at 4
@@ -291,11 +291,11 @@ real_reader bytes at =
 
 -- a real whose kind is read
 pub real_there : (bytes : List ℕ) (at byte : ℕ) (v : Real × ℕ) → at < length bytes → byte ≡ slice_index bytes at
-    → (v.0.kind ≡ byte) × HasParts (form_of byte) bytes (at + 1) v.0.a v.0.b v.1 → HasReal bytes at v.0 v.1
+    → (v.0.kind ≡ byte) × HasRealParts (form_of byte) bytes (at + 1) v.0.a v.0.b v.1 → HasReal bytes at v.0 v.1
 real_there bytes at byte v within is h =
-    record { within = within; kind = h.0 ∙ is; parts = subst (λ k. HasParts (form_of k) bytes (at + 1) v.0.a v.0.b v.1) is h.1 }
+    record { within = within; kind = h.0 ∙ is; parts = subst (λ k. HasRealParts (form_of k) bytes (at + 1) v.0.a v.0.b v.1) is h.1 }
 
 pub real_missing : (bytes : List ℕ) (at byte : ℕ) (e : LexBad) → at < length bytes → byte ≡ slice_index bytes at
-    → PartsFail (form_of byte) bytes (at + 1) e → RealFails bytes at e
+    → RealPartsFail (form_of byte) bytes (at + 1) e → RealFails bytes at e
 real_missing bytes at byte e within is f =
-    inr (record { within = within; fails = subst (λ k. PartsFail (form_of k) bytes (at + 1) e) is f })
+    inr (record { within = within; fails = subst (λ k. RealPartsFail (form_of k) bytes (at + 1) e) is f })

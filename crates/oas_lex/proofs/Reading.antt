@@ -4,7 +4,7 @@ use Rattle.std.proofs.Common.{take, drop, get_or, min, refl, arith, inl, inr, ap
 use Rattle.std.proofs.lemmas.List.{length-take-le, take_more}
 use Rattle.std.proofs.Math.Nat.{mul-le-mul_left}
 use Rattle.std.proofs.Math.Seq.{take-length}
-use Rattle.oas_lex.specs.Numbers.{GoesOn, IsWhole, value_of, HasUnsigned, HasSigned, EndsFirst, IsWide}
+use Rattle.oas_lex.specs.Numbers.{GoesOn, IsWholeNumber, value_of, HasUnsigned, HasSigned, EndsFirst, IsWide}
 use Rattle.oas_lex.proofs.Wholes.{whole_not_on, value_take-le, whole_reaches, whole_some, one_whole}
 
 -- what the group after so many weighs
@@ -37,7 +37,7 @@ on_append : (xs : List ℕ) (b : ℕ) → GoesOn xs → 128 ≤ b → GoesOn (xs
 on_append [] b g h = (h, tt)
 on_append (x ∷ xs) b g h = (g.0, on_append xs b g.1 h)
 
-whole_append : (xs : List ℕ) (b : ℕ) → GoesOn xs → b < 128 → IsWhole (xs ++ b ∷ [])
+whole_append : (xs : List ℕ) (b : ℕ) → GoesOn xs → b < 128 → IsWholeNumber (xs ++ b ∷ [])
 whole_append [] b g h = inl (h, refl)
 whole_append (x ∷ xs) b g h = inr (g.0, whole_append xs b g.1 h)
 
@@ -49,7 +49,7 @@ value_more xs k h =
 pub on_more : (xs : List ℕ) (k : ℕ) → k < length xs → GoesOn (take k xs) → 128 ≤ get_or xs k 0 → GoesOn (take (k + 1) xs)
 on_more xs k h g b = rw (take_more xs k 0 h) (on_append (take k xs) (get_or xs k 0) g b)
 
-pub whole_more : (xs : List ℕ) (k : ℕ) → k < length xs → GoesOn (take k xs) → get_or xs k 0 < 128 → IsWhole (take (k + 1) xs)
+pub whole_more : (xs : List ℕ) (k : ℕ) → k < length xs → GoesOn (take k xs) → get_or xs k 0 < 128 → IsWholeNumber (take (k + 1) xs)
 whole_more xs k h g b = rw (take_more xs k 0 h) (whole_append (take k xs) (get_or xs k 0) g b)
 
 -- the number that the first groups make, and what the next one weighs, 2^63 where it is at least that

@@ -5,13 +5,13 @@ use Rattle.std.proofs.lemmas.Bool.{cases_lt}
 use Rattle.std.proofs.Math.Seq.{take-append_seam}
 use Rattle.std.proofs.lemmas.List.Prefix.{front_rest}
 use Rattle.oas_lex.specs.Spelling.{groups, unsigned_text, signed_code, signed_text}
-use Rattle.oas_lex.specs.Numbers.{IsWhole, IsUnsigned, IsSigned, HasUnsigned, HasSigned, value_of, signed_value}
+use Rattle.oas_lex.specs.Numbers.{IsWholeNumber, IsUnsigned, IsSigned, HasUnsigned, HasSigned, value_of, signed_value}
 use Rattle.oas_lex.proofs.Groups.{groups_last, groups_next, unsigned_spells}
 use Rattle.oas_lex.proofs.Reading.{has_one, unsigned_of_signed}
 use Rattle.oas_lex.proofs.Codes.{code_below, signed_spells, least_code}
 
 -- a spelling of a number that is no less has no fewer groups
-fewer_groups : (more n : ℕ) (other : List ℕ) → IsWhole other → n ≤ value_of other → length (groups more n) ≤ length other
+fewer_groups : (more n : ℕ) (other : List ℕ) → IsWholeNumber other → n ≤ value_of other → length (groups more n) ≤ length other
 fewer_groups more n [] h e = absurd h
 fewer_groups zero n (b ∷ other) h e = omega arith
 fewer_groups (suc more) n (b ∷ other) h e =

@@ -1,10 +1,10 @@
 -- Where the spelling of a number ends: in one place at most, and nothing that follows it changes that.
 use Rattle.std.proofs.Common.{◌≡◌, ℕ, zero, suc, ◌<◌, ◌≤◌, List, [], ◌∷◌, ◌++◌, length, take, arith, inl, inr, ap}
 use Rattle.std.proofs.lemmas.List.{length-take-le}
-use Rattle.oas_lex.specs.Numbers.{GoesOn, IsWhole, value_of}
+use Rattle.oas_lex.specs.Numbers.{GoesOn, IsWholeNumber, value_of}
 
 -- bytes that all go on don't begin with a whole spelling
-pub whole_not_on : (xs : List ℕ) (m : ℕ) → IsWhole (take m xs) → GoesOn xs → ⊥
+pub whole_not_on : (xs : List ℕ) (m : ℕ) → IsWholeNumber (take m xs) → GoesOn xs → ⊥
 whole_not_on [] zero h g = h
 whole_not_on [] (suc m) h g = h
 whole_not_on (x ∷ xs) zero h g = h
@@ -18,7 +18,7 @@ value_take-le (x ∷ xs) zero = omega arith
 value_take-le (x ∷ xs) (suc m) = omega (arith, value_take-le xs m)
 
 -- a whole spelling reaches past all bytes that go on
-pub whole_reaches : (xs : List ℕ) (m k : ℕ) → IsWhole (take m xs) → GoesOn (take k xs) → value_of (take (suc k) xs) ≤ value_of (take m xs)
+pub whole_reaches : (xs : List ℕ) (m k : ℕ) → IsWholeNumber (take m xs) → GoesOn (take k xs) → value_of (take (suc k) xs) ≤ value_of (take m xs)
 whole_reaches [] zero k h g = absurd h
 whole_reaches [] (suc m) k h g = absurd h
 whole_reaches (x ∷ xs) zero k h g = absurd h
@@ -27,12 +27,12 @@ whole_reaches (x ∷ xs) (suc m) (suc k) h g =
     elim h [ inl last ↦ absurd (omega arith) | inr next ↦ omega (arith, whole_reaches xs m k next.1 g.1) ]
 
 -- a whole spelling has a byte
-pub whole_some : (xs : List ℕ) (m : ℕ) → IsWhole (take m xs) → 0 < m
+pub whole_some : (xs : List ℕ) (m : ℕ) → IsWholeNumber (take m xs) → 0 < m
 whole_some xs zero h = absurd h
 whole_some xs (suc m) h = omega arith
 
 -- one whole spelling at most stands at a place
-pub one_whole : (xs : List ℕ) (m k : ℕ) → m ≤ length xs → k ≤ length xs → IsWhole (take m xs) → IsWhole (take k xs) → m ≡ k
+pub one_whole : (xs : List ℕ) (m k : ℕ) → m ≤ length xs → k ≤ length xs → IsWholeNumber (take m xs) → IsWholeNumber (take k xs) → m ≡ k
 one_whole [] zero k a b h g = absurd h
 one_whole [] (suc m) k a b h g = absurd h
 one_whole (x ∷ xs) zero k a b h g = absurd h
@@ -51,7 +51,7 @@ one_whole (x ∷ xs) (suc m) (suc k) a b h g =
     ]
 
 -- no whole spelling begins another
-pub none_begins : (a b x y : List ℕ) → IsWhole a → IsWhole b → a ++ x ≡ b ++ y → (a ≡ b) × (x ≡ y)
+pub none_begins : (a b x y : List ℕ) → IsWholeNumber a → IsWholeNumber b → a ++ x ≡ b ++ y → (a ≡ b) × (x ≡ y)
 none_begins [] b x y h g e = absurd h
 none_begins (p ∷ a) [] x y h g e = absurd g
 none_begins (p ∷ a) (q ∷ b) x y h g e =

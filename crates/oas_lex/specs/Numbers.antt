@@ -12,9 +12,9 @@ GoesOn [] = Unit {0}
 GoesOn (byte ∷ rest) = (128 ≤ byte) × GoesOn rest
 
 -- the top bit is set on all bytes but the last
-abbrev pub IsWhole : List ℕ → Type 0
-IsWhole [] = ⊥
-IsWhole (byte ∷ rest) = ((byte < 128) × (rest ≡ [])) ⊎ ((128 ≤ byte) × IsWhole rest)
+abbrev pub IsWholeNumber : List ℕ → Type 0
+IsWholeNumber [] = ⊥
+IsWholeNumber (byte ∷ rest) = ((byte < 128) × (rest ≡ [])) ⊎ ((128 ≤ byte) × IsWholeNumber rest)
 
 -- the number that the groups of the bytes make
 abbrev pub value_of : List ℕ → ℕ
@@ -23,7 +23,7 @@ value_of (byte ∷ rest) = byte % 128 + 128 * value_of rest
 
 -- the bytes spell the unsigned number
 pub record IsUnsigned (bytes : List ℕ) (n : ℕ) : Type 0 where
-  pub whole : IsWhole bytes
+  pub whole : IsWholeNumber bytes
   pub value : value_of bytes ≡ n
 
 -- the number with its sign in bit 0 and its magnitude above
@@ -32,7 +32,7 @@ signed_value code = if code % 2 == 0 then pos (code / 2) else neg_ℤ (pos (code
 
 -- the bytes spell the signed number
 pub record IsSigned (bytes : List ℕ) (z : ℤ) : Type 0 where
-  pub whole : IsWhole bytes
+  pub whole : IsWholeNumber bytes
   pub value : signed_value (value_of bytes) ≡ z
 
 -- the bytes spell the unsigned number, and no spelling of it is shorter

@@ -39,32 +39,32 @@ pub record HasBits (bytes : List ℕ) (at count a b next : ℕ) : Type 0 where
   pub alone : b ≡ 0
 
 -- the numbers of a real stand from `at` up to before `next`
-abbrev pub HasParts : Option RealForm → List ℕ → ℕ → ℕ → ℕ → ℕ → Type 0
-HasParts (Some OneNumber) bytes at a b next = HasOneNumber bytes at a b next
-HasParts (Some TwoNumbers) bytes at a b next = (mid : ℕ) × HasUnsigned bytes at a mid × HasUnsigned bytes mid b next
-HasParts (Some FourBytes) bytes at a b next = HasBits bytes at 4 a b next
-HasParts (Some EightBytes) bytes at a b next = HasBits bytes at 8 a b next
-HasParts None bytes at a b next = ⊥
+abbrev pub HasRealParts : Option RealForm → List ℕ → ℕ → ℕ → ℕ → ℕ → Type 0
+HasRealParts (Some OneNumber) bytes at a b next = HasOneNumber bytes at a b next
+HasRealParts (Some TwoNumbers) bytes at a b next = (mid : ℕ) × HasUnsigned bytes at a mid × HasUnsigned bytes mid b next
+HasRealParts (Some FourBytes) bytes at a b next = HasBits bytes at 4 a b next
+HasRealParts (Some EightBytes) bytes at a b next = HasBits bytes at 8 a b next
+HasRealParts None bytes at a b next = ⊥
 
 -- the real stands at `at`
 pub record HasReal (bytes : List ℕ) (at : ℕ) (real : Real) (next : ℕ) : Type 0 where
   pub within : at < length bytes
   pub kind : real.kind ≡ slice_index bytes at
-  pub parts : HasParts (form_of (slice_index bytes at)) bytes (at + 1) real.a real.b next
+  pub parts : HasRealParts (form_of (slice_index bytes at)) bytes (at + 1) real.a real.b next
 
 -- the numbers of a real don't stand at `at`, for this cause
-abbrev pub PartsFail : Option RealForm → List ℕ → ℕ → LexBad → Type 0
-PartsFail (Some OneNumber) bytes at bad = NumberFails bytes at bad
-PartsFail (Some TwoNumbers) bytes at bad =
+abbrev pub RealPartsFail : Option RealForm → List ℕ → ℕ → LexBad → Type 0
+RealPartsFail (Some OneNumber) bytes at bad = NumberFails bytes at bad
+RealPartsFail (Some TwoNumbers) bytes at bad =
     NumberFails bytes at bad ⊎ ((a : ℕ) × (mid : ℕ) × HasUnsigned bytes at a mid × NumberFails bytes mid bad)
-PartsFail (Some FourBytes) bytes at bad = BytesFail bytes at 4 bad
-PartsFail (Some EightBytes) bytes at bad = BytesFail bytes at 8 bad
-PartsFail None bytes at bad = bad ≡ RealKind
+RealPartsFail (Some FourBytes) bytes at bad = BytesFail bytes at 4 bad
+RealPartsFail (Some EightBytes) bytes at bad = BytesFail bytes at 8 bad
+RealPartsFail None bytes at bad = bad ≡ RealKind
 
 -- the kind is there, and its numbers aren't, for this cause
 pub record KindFails (bytes : List ℕ) (at : ℕ) (bad : LexBad) : Type 0 where
   pub within : at < length bytes
-  pub fails : PartsFail (form_of (slice_index bytes at)) bytes (at + 1) bad
+  pub fails : RealPartsFail (form_of (slice_index bytes at)) bytes (at + 1) bad
 
 -- no real stands at `at`, for this cause
 abbrev pub RealFails : List ℕ → ℕ → LexBad → Type 0
@@ -118,7 +118,7 @@ IsMagnitude (Some EightBytes) real q = IsIeee 52 1023 (real.a % 2 ^ 63) q
 IsMagnitude None real q = ⊥
 
 -- the real equals n, which is below 2^24 but for its sign (this program's choice: greater ones aren't taken)
-pub record IsWholeReal (real : Real) (n : ℤ) : Type 0 where
+pub record IsWholeOasisReal (real : Real) (n : ℤ) : Type 0 where
   pub small : unsigned_abs n < 2 ^ 24
   pub signed : n ≡ with_sign (sign_of (form_of real.kind) real) (unsigned_abs n)
   pub magnitude : IsMagnitude (form_of real.kind) real (unsigned_abs n)

@@ -1,7 +1,7 @@
 -- What the spellings of integers keep: they are shortest, none begins another, and each is read back with its end.
 use Rattle.std.specs.Prelude.{ℕ, ◌+◌, ◌^◌, ◌<◌, ◌≤◌, ◌≡◌, ℤ, List, ◌++◌, length, unsigned_abs}
 use Rattle.oas_lex.specs.Spelling.{unsigned_text, signed_text}
-use Rattle.oas_lex.specs.Numbers.{IsWhole, IsShortest, IsSigned, HasUnsigned, HasSigned}
+use Rattle.oas_lex.specs.Numbers.{IsWholeNumber, IsShortest, IsSigned, HasUnsigned, HasSigned}
 
 -- The text of an unsigned number spells it, and no spelling is shorter.
 abbrev pub UnsignedIsShortest : Type 0
@@ -17,7 +17,7 @@ SignedIsShortest = (z : ℤ) (other : List ℕ) → unsigned_abs z < 2 ^ 62 → 
 
 -- No spelling of a number begins another, whatever follows the two.
 abbrev pub NoneBegins : Type 0
-NoneBegins = (a b x y : List ℕ) → IsWhole a → IsWhole b → a ++ x ≡ b ++ y → (a ≡ b) × (x ≡ y)
+NoneBegins = (a b x y : List ℕ) → IsWholeNumber a → IsWholeNumber b → a ++ x ≡ b ++ y → (a ≡ b) × (x ≡ y)
 
 -- What stands before and after the text of a number doesn't change that it stands there, and where it ends;
 abbrev pub UnsignedReadsBack : Type 0

@@ -1,6 +1,6 @@
 ghost use Rattle.std.specs.Prelude.{◌≡◌, ◌<◌, ◌≤◌, ◌↔◌, ℕ, Some, length, slice_index, IfOk, IfErr};
 ghost use Rattle.oas_lex.specs.declared.reals.Real.{Real as AReal};
-ghost use Rattle.oas_lex.specs.Reals.{TwoNumbers, form_of, HasOneNumber, HasBits, HasParts, PartsFail, HasReal, RealFails};
+ghost use Rattle.oas_lex.specs.Reals.{TwoNumbers, form_of, HasOneNumber, HasBits, HasRealParts, RealPartsFail, HasReal, RealFails};
 ghost use Rattle.oas_lex.specs.Strings.{BytesFail, NumberFails};
 
 use crate::LexBad;
@@ -21,8 +21,8 @@ fn one_number(bytes: &[u8], at: usize, kind: u8) -> Result<(Real, usize), LexBad
 
 fn two_numbers(bytes: &[u8], at: usize, kind: u8) -> Result<(Real, usize), LexBad>
     requires { at ≤ length bytes.now }
-    ensures ok { IfOk result (λ r. (r.0.kind ≡ kind) × HasParts (Some TwoNumbers) bytes.now at r.0.a r.0.b r.1) }
-    ensures bad { IfErr result (λ bad. PartsFail (Some TwoNumbers) bytes.now at bad) }
+    ensures ok { IfOk result (λ r. (r.0.kind ≡ kind) × HasRealParts (Some TwoNumbers) bytes.now at r.0.a r.0.b r.1) }
+    ensures bad { IfErr result (λ bad. RealPartsFail (Some TwoNumbers) bytes.now at bad) }
 {
     let (a, mid) = unsigned(bytes, at)?;
     let (b, next) = unsigned(bytes, mid)?;
@@ -52,8 +52,8 @@ fn eight_bytes(bytes: &[u8], at: usize, kind: u8) -> Result<(Real, usize), LexBa
 // The numbers of a real of this kind.
 fn parts(bytes: &[u8], at: usize, kind: u8) -> Result<(Real, usize), LexBad>
     requires { at ≤ length bytes.now }
-    ensures ok { IfOk result (λ r. (r.0.kind ≡ kind) × HasParts (form_of kind) bytes.now at r.0.a r.0.b r.1) }
-    ensures bad { IfErr result (λ bad. PartsFail (form_of kind) bytes.now at bad) }
+    ensures ok { IfOk result (λ r. (r.0.kind ≡ kind) × HasRealParts (form_of kind) bytes.now at r.0.a r.0.b r.1) }
+    ensures bad { IfErr result (λ bad. RealPartsFail (form_of kind) bytes.now at bad) }
 {
     match kind {
         0..=3 => one_number(bytes, at, kind),

@@ -1,5 +1,5 @@
 ghost use Rattle.std.specs.Prelude.{◌≡◌, ◌+◌, ◌<◌, ◌≤◌, ◌^◌, ◌↔◌, ℕ, ℤ};
-ghost use Rattle.oas_lex.specs.Reals.{form_of, with_sign, sign_of, IsQuotient, IsIeee, IsMagnitude, IsWholeReal};
+ghost use Rattle.oas_lex.specs.Reals.{form_of, with_sign, sign_of, IsQuotient, IsIeee, IsMagnitude, IsWholeOasisReal};
 
 /// Whole numbers from here on aren't taken for a real's value.
 const MOST: u64 = 1 << 24;
@@ -87,7 +87,7 @@ fn with_sign(sign: u64, magnitude: u64) -> i64
 
 /// The whole number, below 2^24 but for its sign, that the real equals. None where it equals none or a denominator is 0.
 pub fn real_whole(real: Real) -> Option<i64>
-    ensures { (n : ℤ) → (result ≡ Some n) ↔ IsWholeReal real n }
+    ensures { (n : ℤ) → (result ≡ Some n) ↔ IsWholeOasisReal real n }
 {
     let magnitude = magnitude_of(real)?;
     if magnitude >= MOST {

@@ -23,12 +23,12 @@ use Rattle.oas_reader.specs.declared.cells.Draft.{Draft}
 use Rattle.oas_reader.specs.declared.refusing.OasBad.{OasBad}
 use Rattle.oas_reader.specs.Behind.{AreCellsBehind}
 use Rattle.oas_reader.specs.Finished.{cell_by, cells_by, cell_item, cell_items, AreTwins}
-use Rattle.oas_reader.specs.Items.{Item, records_in, NoneEnds, is_end, given}
+use Rattle.oas_reader.specs.Items.{Item, records_in, NoItemEnds, is_end, given}
 use Rattle.oas_reader.specs.Meaning.{Placing, name_or, named, is_wanted, given_in_cell, shapes_at, placings_at, open_cell, cells_called, ends_cell, cells_at}
 use Rattle.oas_reader.specs.Names.{some_if, is_none, same_name, have_one_name, cell_called, target_called, cell_name}
 use Rattle.oas_reader.specs.Names.{name_called, is_unknown, first_unknown, first_named, with_second, first_twins}
 use Rattle.oas_reader.specs.Naming.{cell_record}
-use Rattle.oas_reader.specs.Reading.{item, IsFaultOf}
+use Rattle.oas_reader.specs.Reading.{item, IsFaultOfNames}
 use Rattle.oas_reader.specs.Readers.{WholeCell, whole_cell, begun_by, begun_of, whole_by, whole_of}
 use Rattle.oas_reader.proofs.FinishLemmas.{called_back, cell_before, only_cells, twins_only}
 
@@ -78,7 +78,7 @@ whole_step bytes all true ends before last cells more goes_on one other =
 whole_step bytes all false ends before last cells more goes_on one other =
     one ∙ sym (append-nil cells) ∙ ap (λ b. cells ++ (if b then more else [])) (sym goes_on)
 
-whole_cells : (bytes : List ℕ) (all : List OasRecord) (wanted : List Pair) (past : List Item) → NoneEnds past
+whole_cells : (bytes : List ℕ) (all : List OasRecord) (wanted : List Pair) (past : List Item) → NoItemEnds past
     → map (cell_whole bytes all) (whole_of wanted past) ≡ given (cells_at bytes all wanted) (records_in past)
 whole_cells bytes all wanted [] none = refl
 whole_cells bytes all wanted (x ∷ past) none =
@@ -140,7 +140,7 @@ end_whole wanted past last ends =
     (end_given placings_at records last.r goes_on (end_placings records last.r ends))
 
 pub cells_behind : (bytes : List ℕ) (all : List OasRecord) (wanted : List Pair) (past : List Item) (last : Item) (drafts : List Draft)
-    → is_end last.r ≡ true → NoneEnds past → map whole_cell drafts ≡ all_whole wanted (last ∷ past)
+    → is_end last.r ≡ true → NoItemEnds past → map whole_cell drafts ≡ all_whole wanted (last ∷ past)
     → cells_by bytes all drafts ≡ given (cells_at bytes all wanted) (records_in (last ∷ past))
 cells_behind bytes all wanted past last drafts ends none are =
     let open_one = whole_by (begun_of past) (given_in_cell (shapes_at wanted) (records_in past)) (given_in_cell placings_at (records_in past)) in
@@ -339,7 +339,7 @@ ok_with (Ok x) P Q R f p q = f x p q
 ok_with (Err e) P Q R f p q = tt
 
 pub cells_are_behind : (bytes : List ℕ) (wanted : List Pair) (past : List Item) (last : Item) (drafts : List Draft) (cells : List Cell)
-    → is_end last.r ≡ true → NoneEnds past → map whole_cell drafts ≡ all_whole wanted (last ∷ past)
+    → is_end last.r ≡ true → NoItemEnds past → map whole_cell drafts ≡ all_whole wanted (last ∷ past)
     → first_unknown bytes (records_in (last ∷ past)) (last ∷ past) ≡ None
     → cells ≡ cells_by bytes (records_in (last ∷ past)) drafts → first_twins bytes (records_in (last ∷ past)) (cell_items drafts) ≡ None
     → AreCellsBehind bytes wanted (last ∷ past) cells
@@ -358,7 +358,7 @@ distinct_behind bytes all wanted past drafts cells are known cells_are distinct 
 
 pub fault_behind : (bytes : List ℕ) (wanted : List Pair) (past : List Item) (drafts : List Draft) (refusal : Refusal OasBad)
     → map whole_cell drafts ≡ all_whole wanted past → first_unknown bytes (records_in past) past ≡ None
-    → IsForFault (AreTwins bytes (records_in past) (cell_items drafts)) refusal → IsForFault (IsFaultOf bytes past) refusal
+    → IsForFault (AreTwins bytes (records_in past) (cell_items drafts)) refusal → IsForFault (IsFaultOfNames bytes past) refusal
 fault_behind bytes wanted past drafts (Fault bad) are known (first, second, twins, is) =
     inr (first, second, known, sym (twins_behind bytes (records_in past) wanted past drafts are) ∙ twins, is)
 fault_behind bytes wanted past drafts NoMemory are known h = tt

@@ -1,8 +1,8 @@
 -- What a record that stands keeps within the bytes, and what is kept of it says of its kind.
 use Rattle.std.proofs.Common.{◌≡◌, ℕ, ◌+◌, Bool, true, false, if◌then◌else◌, Option, Some, None, List, [], ◌∷◌, refl, sym, subst, ◌⊎◌, inl, inr, arith}
 use Rattle.oas_lex.specs.Strings.{HasText}
-use Rattle.oas_record.specs.Records.{HasRecord, HasBody, HasInfo, HasRow, row_at, id_of, info_of, fields_of, switch_of, called_or, span_or, real_or, place_of}
-use Rattle.oas_record.specs.Rows.{Field, IsNumber, IsReal, IsCalled, IsSpan as Spanned, Part, Row, NoInfo, Below}
+use Rattle.oas_record.specs.Records.{HasRecord, HasBody, HasInfo, HasRecordRow, row_at, id_of, info_of, fields_of, switch_of, called_or, span_or, real_or, place_of}
+use Rattle.oas_record.specs.Rows.{Field, IsNumber, IsReal, IsCalled, IsSpan as Spanned, Part, RecordRow, NoInfo, Below}
 use Rattle.oas_record.specs.Rows.{HasForm, HasName, HasWhere, HasFields, Text as AText, OneReal, Switch, Tables}
 use Rattle.oas_record.specs.Rows.{Number as ANumber, NameBy, Always, Bit, Zero, when, placed, is_set, is_written}
 use Rattle.oas_record.specs.declared.fields.Called.{Called}
@@ -26,8 +26,8 @@ use Rattle.oas_reader.specs.declared.refusing.OasBad.TheVariants as faults
 -- ---- strings within the bytes
 
 row_of : (bytes : List ℕ) (at : ℕ) (tables : Bool) (r : OasRecord) (next : ℕ) → HasRecord bytes at tables r next
-    → HasRow (row_at (id_of r)) tables bytes (at + 1) (info_of r) (fields_of r) next
-row_of bytes at tables r next h = subst (λ id. HasRow (row_at id) tables bytes (at + 1) (info_of r) (fields_of r) next) (sym h.id) h.row
+    → HasRecordRow (row_at (id_of r)) tables bytes (at + 1) (info_of r) (fields_of r) next
+row_of bytes at tables r next h = subst (λ id. HasRecordRow (row_at id) tables bytes (at + 1) (info_of r) (fields_of r) next) (sym h.id) h.row
 
 text_span : (bytes : List ℕ) (at first next : ℕ) → HasText bytes at first next → IsSpan bytes (first, next)
 text_span bytes at first next h = (omega (arith, h.2.ends), h.2.within)
@@ -38,7 +38,7 @@ same_span bytes span first next e h = let same : span ≡ (first, next) = cc in 
 field_span : (switches : ℕ) (bytes : List ℕ) (at : ℕ) (span : ℕ × ℕ) (next : ℕ) → HasForm AText switches bytes at (Spanned span) next → IsSpan bytes span
 field_span switches bytes at span next h = same_span bytes span h.0 next h.2 (text_span bytes at h.0 next h.1)
 
-body_fields : (row : Row) (tables : Bool) (bytes : List ℕ) (at info : ℕ) (fields : List Field) (next : ℕ)
+body_fields : (row : RecordRow) (tables : Bool) (bytes : List ℕ) (at info : ℕ) (fields : List Field) (next : ℕ)
     → HasBody NoInfo row tables bytes at info fields next → HasFields row.parts (switch_of tables) bytes at fields next
 body_fields row tables bytes at info fields next h = h.1
 
@@ -50,7 +50,7 @@ first_field : (part : Part) (parts : List Part) (switches : ℕ) (bytes : List �
     → HasFields (part ∷ parts) switches bytes at (field ∷ fields) next → IsWritten part switches bytes at field
 first_field part parts switches bytes at field fields next h = record { mid = h.0; stands = h.1 }
 
-abbrev text_row : List Part → Row
+abbrev text_row : List Part → RecordRow
 text_row parts = record { info = NoInfo; parts = when Always AText ∷ parts }
 
 text_first : (parts : List Part) (tables : Bool) (bytes : List ℕ) (at info : ℕ) (span : ℕ × ℕ) (fields : List Field) (next : ℕ)
@@ -77,7 +77,7 @@ called_where written switches bytes at (Some (Number n)) next h = tt
 called_where true switches bytes at (Some (Text first last)) next h = called_name (is_set 6 switches) bytes at first last next h
 called_where false switches bytes at (Some (Text first last)) next h = absurd (let e = h.0 in cc)
 
-abbrev called_row : List Part → Row
+abbrev called_row : List Part → RecordRow
 called_row parts = record { info = Below 256; parts = when (Bit 7) (NameBy 6) ∷ parts }
 
 called_first : (parts : List Part) (bytes : List ℕ) (at info : ℕ) (cell : Option Called) (fields : List Field) (next : ℕ)

@@ -4,7 +4,7 @@ use Rattle.layout_model.specs.declared.pair.Pair.{Pair}
 use Rattle.layout_model.specs.declared.shapes.Shape.{Shape}
 use Rattle.oas_record.specs.declared.fields.Deltas.{Deltas}
 use Rattle.oas_shapes.specs.declared.figures.Brush.{Brush}
-use Rattle.oas_shapes.specs.Rules.{KeepsPolygon, KeepsPath}
+use Rattle.oas_shapes.specs.Rules.{KeepsPolygon, KeepsOasisPath}
 use Rattle.std.proofs.Common.{◌++◌, ◌∙◌, ◌≡◌, ℕ, Option, Some, List, [], ◌∷◌, sym, ap, subst}
 use Rattle.oas_record.specs.declared.repetition.Rep.{Rep}
 use Rattle.oas_shapes.specs.Outlines.{figure_outline, outline_shape}
@@ -101,34 +101,34 @@ polygon_lowest body fields rep copied points at rule b p a r low =
     }
 
 path_keeps : (body : Body) (fields : Fields) (rep : Option Rep) (points : Deltas) (rule : ℕ)
-    → body ≡ bodies.Path → fields.path_points ≡ Some points → KeepsPath (at_in fields) (brush_in fields) points rep rule → KeepsDrawnIn body fields rep rule
+    → body ≡ bodies.Path → fields.path_points ≡ Some points → KeepsOasisPath (at_in fields) (brush_in fields) points rep rule → KeepsDrawnIn body fields rep rule
 path_keeps body fields rep points rule b p k =
     subst (λ q. KeepsDrawnIn q fields rep rule) (sym b) (subst (λ q. PathKeeps q (at_in fields) (brush_in fields) rep rule) (sym p) k)
 
 pub path_keeps_by : (body : Body) (fields : Fields) (rep copied : Option Rep) (points : Deltas) (brush : Brush) (at : Point) (rule : ℕ)
     → body ≡ bodies.Path → fields.path_points ≡ Some points → at ≡ at_in fields → brush ≡ brush_in fields → copied ≡ rep
-    → KeepsPath at brush points copied rule → KeepsDrawnIn body fields rep rule
+    → KeepsOasisPath at brush points copied rule → KeepsDrawnIn body fields rep rule
 path_keeps_by body fields rep copied points brush at rule b p a w r k =
     path_keeps body fields rep points rule b p
-    (subst (λ q. KeepsPath (at_in fields) (brush_in fields) points q rule) r
-    (subst (λ q. KeepsPath (at_in fields) q points copied rule) w (subst (λ q. KeepsPath q brush points copied rule) a k)))
+    (subst (λ q. KeepsOasisPath (at_in fields) (brush_in fields) points q rule) r
+    (subst (λ q. KeepsOasisPath (at_in fields) q points copied rule) w (subst (λ q. KeepsOasisPath q brush points copied rule) a k)))
 
 pub path_few : (body : Body) (fields : Fields) (points : Deltas) → body ≡ bodies.Path → fields.path_points ≡ Some points
     → HasShortList body fields → HasFewPoints points
 path_few body fields points b p short = subst HasShortPath p (subst (λ q. HasShortList q fields) b short)
 
 path_kept : (body : Body) (fields : Fields) (rep : Option Rep) (points : Deltas) (rule : ℕ)
-    → body ≡ bodies.Path → fields.path_points ≡ Some points → KeepsDrawnIn body fields rep rule → KeepsPath (at_in fields) (brush_in fields) points rep rule
+    → body ≡ bodies.Path → fields.path_points ≡ Some points → KeepsDrawnIn body fields rep rule → KeepsOasisPath (at_in fields) (brush_in fields) points rep rule
 path_kept body fields rep points rule b p k =
     subst (λ q. PathKeeps q (at_in fields) (brush_in fields) rep rule) p (subst (λ q. KeepsDrawnIn q fields rep rule) b k)
 
 pub path_lowest : (body : Body) (fields : Fields) (rep copied : Option Rep) (points : Deltas) (brush : Brush) (at : Point) (rule : ℕ)
     → body ≡ bodies.Path → fields.path_points ≡ Some points → at ≡ at_in fields → brush ≡ brush_in fields → copied ≡ rep
-    → IsLowest (KeepsPath at brush points copied) rule → IsLowest (KeepsDrawnIn body fields rep) rule
+    → IsLowest (KeepsOasisPath at brush points copied) rule → IsLowest (KeepsDrawnIn body fields rep) rule
 path_lowest body fields rep copied points brush at rule b p a w r low =
-    let same : IsLowest (KeepsPath (at_in fields) (brush_in fields) points rep) rule =
-    subst (λ q. IsLowest (KeepsPath (at_in fields) (brush_in fields) points q) rule) r
-    (subst (λ q. IsLowest (KeepsPath (at_in fields) q points copied) rule) w (subst (λ q. IsLowest (KeepsPath q brush points copied) rule) a low)) in
+    let same : IsLowest (KeepsOasisPath (at_in fields) (brush_in fields) points rep) rule =
+    subst (λ q. IsLowest (KeepsOasisPath (at_in fields) (brush_in fields) points q) rule) r
+    (subst (λ q. IsLowest (KeepsOasisPath (at_in fields) q points copied) rule) w (subst (λ q. IsLowest (KeepsOasisPath q brush points copied) rule) a low)) in
     record {
       broken = λ kept. same.broken (path_kept body fields rep points rule b p kept);
       lower = λ other less. path_keeps body fields rep points other b p (same.lower other less);

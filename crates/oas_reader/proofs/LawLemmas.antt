@@ -9,15 +9,15 @@ use Rattle.oas_record.specs.declared.records.OasRecord.{OasRecord}
 use Rattle.oas_shapes.specs.Rules.{IsLowest}
 use Rattle.oas_reader.specs.declared.refusing.OasBad.{OasBad}
 use Rattle.oas_reader.specs.declared.refusing.OasBad.TheVariants as faults
-use Rattle.oas_reader.specs.Items.{Item, records_in, tables_at_end, IsRun, NoneEnds, is_end}
+use Rattle.oas_reader.specs.Items.{Item, records_in, tables_at_end, AreItemsEndToEnd, NoItemEnds, is_end}
 use Rattle.oas_reader.specs.Order.{is_in_order}
 use Rattle.oas_reader.specs.Names.{conflict_of, first_unknown, first_twins}
 use Rattle.oas_reader.specs.Undefined.{undefined_of}
-use Rattle.oas_reader.specs.Rules.{KeepsRules, Keeps}
+use Rattle.oas_reader.specs.Rules.{KeepsOasisRules, KeepsOasisRule}
 use Rattle.oas_reader.specs.Meaning.{layout_of}
-use Rattle.oas_reader.specs.Reading.{IsAllowed, AreAllowed, IsWhole, IsLexicalFault, IsUndefinedFault, IsDefined}
-use Rattle.oas_reader.specs.Reading.{IsValueFault, IsNameFault, IsUnitFault, IsTailFault, IsRefused, IsRecordFault}
-use Rattle.oas_reader.specs.Reading.{IsFaultWithin, IsFaultOf, OneLayout, OneFault, NoLayoutWithFault}
+use Rattle.oas_reader.specs.Reading.{IsItemAllowed, AreItemsAllowed, IsWholeFile, IsLexicalFault, IsUndefinedFault, HasAllNeeded}
+use Rattle.oas_reader.specs.Reading.{IsOasisValueFault, IsOasisNameFault, IsOasisUnitFault, IsOasisTailFault, IsRefused, IsOasisRecordFault}
+use Rattle.oas_reader.specs.Reading.{IsFaultWithin, IsFaultOfNames, OneLayout, OneFault, NoLayoutWithFault}
 
 -- ---- two runs of records
 
@@ -34,7 +34,7 @@ Extends past at (item ∷ more) up = Same past at more item.at ⊎ Extends past 
 
 -- what stands after a run that goes on stands in the longer one
 further : (bytes : List ℕ) (x : Item) (past : List Item) (at : ℕ) (more : List Item) (up : ℕ) → OneRecord
-    → HasRecord bytes x.at (tables_at_end (records_in past)) x.r at → IsRun bytes more up → Extends past x.at more up
+    → HasRecord bytes x.at (tables_at_end (records_in past)) x.r at → AreItemsEndToEnd bytes more up → Extends past x.at more up
     → Same (x ∷ past) at more up ⊎ Extends (x ∷ past) at more up
 further bytes x past at [] up law stands run on = absurd on
 further bytes x past at (y ∷ more) up law stands run (inl same) =
@@ -51,7 +51,7 @@ further bytes x past at (y ∷ more) up law stands run (inr on) =
       | inr on ↦ inr (inr on)
     ]
 
-compare : (bytes : List ℕ) (past : List Item) (at : ℕ) (more : List Item) (up : ℕ) → OneRecord → IsRun bytes past at → IsRun bytes more up
+compare : (bytes : List ℕ) (past : List Item) (at : ℕ) (more : List Item) (up : ℕ) → OneRecord → AreItemsEndToEnd bytes past at → AreItemsEndToEnd bytes more up
     → Same past at more up ⊎ Extends past at more up ⊎ Extends more up past at
 compare bytes [] at [] up law p q = inl (refl, p ∙ sym q)
 compare bytes [] at (y ∷ more) up law p q = elim (compare bytes [] at more y.at law p q.1) [
@@ -70,9 +70,9 @@ compare bytes (x ∷ past) at more up law p q = elim (compare bytes past x.at mo
 
 -- ---- END
 
-none_before : (past : List Item) (at : ℕ) (more : List Item) (up : ℕ) → Extends past at more up → NoneEnds more → NoneEnds past
+none_before : (past : List Item) (at : ℕ) (more : List Item) (up : ℕ) → Extends past at more up → NoItemEnds more → NoItemEnds past
 none_before past at [] up on none = absurd on
-none_before past at (y ∷ more) up (inl same) none = subst NoneEnds (sym same.0) none.1
+none_before past at (y ∷ more) up (inl same) none = subst NoItemEnds (sym same.0) none.1
 none_before past at (y ∷ more) up (inr on) none = none_before past at more y.at on none.1
 
 ends_not : (b : Bool) → b ≡ true → b ≡ false → ⊥
@@ -86,31 +86,31 @@ record IsGood (bytes : List ℕ) (unit : ℕ) (wanted : List Pair) (past : List 
   next : ℕ
   stands : HasRecord bytes at (tables_at_end (records_in past)) r next
   order : is_in_order (records_in past) r ≡ true
-  allowed : IsAllowed bytes unit wanted past at r next
+  allowed : IsItemAllowed bytes unit wanted past at r next
 
 good_at : (bytes : List ℕ) (unit : ℕ) (wanted : List Pair) (past : List Item) (at : ℕ) (y : Item) (more : List Item) (up : ℕ)
     → Same past at more y.at → HasRecord bytes y.at (tables_at_end (records_in more)) y.r up → is_in_order (records_in more) y.r ≡ true
-    → IsAllowed bytes unit wanted more y.at y.r up → IsGood bytes unit wanted past at
+    → IsItemAllowed bytes unit wanted more y.at y.r up → IsGood bytes unit wanted past at
 good_at bytes unit wanted past at y more up same stands order allowed =
     subst (λ xs. IsGood bytes unit wanted xs at) (sym same.0) (
     subst (λ n. IsGood bytes unit wanted more n) (sym same.1) (record { r = y.r; next = up; stands = stands; order = order; allowed = allowed })
     )
 
 good_in : (bytes : List ℕ) (unit : ℕ) (wanted : List Pair) (past : List Item) (at : ℕ) (more : List Item) (up : ℕ)
-    → Extends past at more up → IsRun bytes more up → AreAllowed bytes unit wanted more up → IsGood bytes unit wanted past at
+    → Extends past at more up → AreItemsEndToEnd bytes more up → AreItemsAllowed bytes unit wanted more up → IsGood bytes unit wanted past at
 good_in bytes unit wanted past at [] up on run allowed = absurd on
 good_in bytes unit wanted past at (y ∷ more) up (inl same) run allowed =
     good_at bytes unit wanted past at y more up same run.0 allowed.0 allowed.1
 good_in bytes unit wanted past at (y ∷ more) up (inr on) run allowed = good_in bytes unit wanted past at more y.at on run.1 allowed.2
 
 abbrev Fault : List ℕ → ℕ → List Pair → List Item → ℕ → OasBad → Type 0
-Fault bytes unit wanted past at bad = IsLexicalFault bytes past at bad ⊎ IsRecordFault bytes unit wanted past at bad
+Fault bytes unit wanted past at bad = IsLexicalFault bytes past at bad ⊎ IsOasisRecordFault bytes unit wanted past at bad
 
 not_some : {A : Type 0} → (o : Option A) (a : A) → o ≡ None → o ≡ Some a → ⊥
 not_some o a none some = absurd (let e : None ≡ Some a = sym none ∙ some in cc)
 
 not_refused : (bytes : List ℕ) (unit : ℕ) (wanted : List Pair) (past : List Item) (at : ℕ) (r : OasRecord) (next : ℕ) (bad : OasBad)
-    → is_in_order (records_in past) r ≡ true → IsAllowed bytes unit wanted past at r next → IsRefused bytes unit wanted past at r next bad → ⊥
+    → is_in_order (records_in past) r ≡ true → IsItemAllowed bytes unit wanted past at r next → IsRefused bytes unit wanted past at r next bad → ⊥
 not_refused bytes unit wanted past at r next bad order allowed (inl f) = ends_not (is_in_order (records_in past) r) order f.order
 not_refused bytes unit wanted past at r next bad order allowed (inr (inl f)) =
     not_some (undefined_of (records_in past) r) f.variable allowed.defined f.undefined
@@ -146,22 +146,22 @@ some_inj o a b p q = let e : Some a ≡ Some b = sym p ∙ q in cc
 
 abbrev Late : List ℕ → ℕ → List Pair → List Item → ℕ → OasRecord → ℕ → OasBad → Type 0
 Late bytes unit wanted past at r next bad =
-    IsNameFault bytes wanted past at r bad ⊎ IsUnitFault bytes unit wanted past at r bad ⊎ IsTailFault bytes unit wanted past at r next bad
+    IsOasisNameFault bytes wanted past at r bad ⊎ IsOasisUnitFault bytes unit wanted past at r bad ⊎ IsOasisTailFault bytes unit wanted past at r next bad
 
 abbrev Valued : List ℕ → ℕ → List Pair → List Item → ℕ → OasRecord → ℕ → OasBad → Type 0
-Valued bytes unit wanted past at r next bad = IsValueFault bytes wanted past at r bad ⊎ Late bytes unit wanted past at r next bad
+Valued bytes unit wanted past at r next bad = IsOasisValueFault bytes wanted past at r bad ⊎ Late bytes unit wanted past at r next bad
 
 abbrev Ordered : List ℕ → ℕ → List Pair → List Item → ℕ → OasRecord → ℕ → OasBad → Type 0
 Ordered bytes unit wanted past at r next bad = IsUndefinedFault past at r bad ⊎ Valued bytes unit wanted past at r next bad
 
 rules_of : (bytes : List ℕ) (unit : ℕ) (wanted : List Pair) (past : List Item) (at : ℕ) (r : OasRecord) (next : ℕ) (bad : OasBad)
-    → Late bytes unit wanted past at r next bad → KeepsRules bytes wanted (records_in past) r
+    → Late bytes unit wanted past at r next bad → KeepsOasisRules bytes wanted (records_in past) r
 rules_of bytes unit wanted past at r next bad (inl f) = f.rules
 rules_of bytes unit wanted past at r next bad (inr (inl f)) = f.rules
 rules_of bytes unit wanted past at r next bad (inr (inr f)) = f.rules
 
 defined_of : (bytes : List ℕ) (unit : ℕ) (wanted : List Pair) (past : List Item) (at : ℕ) (r : OasRecord) (next : ℕ) (bad : OasBad)
-    → Valued bytes unit wanted past at r next bad → IsDefined past r
+    → Valued bytes unit wanted past at r next bad → HasAllNeeded past r
 defined_of bytes unit wanted past at r next bad (inl f) = f.defined
 defined_of bytes unit wanted past at r next bad (inr (inl f)) = f.defined
 defined_of bytes unit wanted past at r next bad (inr (inr (inl f))) = f.defined
@@ -189,7 +189,7 @@ same_value : (bytes : List ℕ) (unit : ℕ) (wanted : List Pair) (past : List I
     → Valued bytes unit wanted past at r next one → Valued bytes unit wanted past at r next other → one ≡ other
 same_value bytes unit wanted past at r next one other (inl f) (inl g) =
     f.bad_is
-    ∙ ap (λ rule. faults.Value at rule) (lowest_unique (Keeps bytes wanted (records_in past) r) f.rule g.rule f.broken g.broken)
+    ∙ ap (λ rule. faults.Value at rule) (lowest_unique (KeepsOasisRule bytes wanted (records_in past) r) f.rule g.rule f.broken g.broken)
     ∙ sym g.bad_is
 same_value bytes unit wanted past at r next one other (inl f) (inr g) =
     absurd (f.broken.broken (rules_of bytes unit wanted past at r next other g f.rule))
@@ -236,14 +236,14 @@ same_fault bytes unit wanted past at one other law apart cause (inr f) (inr g) =
 -- ---- whole files
 
 -- records of which none ends aren't whole
-not_whole : (xs : List Item) (last : Item) (past : List Item) → xs ≡ last ∷ past → NoneEnds xs → is_end last.r ≡ true → ⊥
+not_whole : (xs : List Item) (last : Item) (past : List Item) → xs ≡ last ∷ past → NoItemEnds xs → is_end last.r ≡ true → ⊥
 not_whole [] last past e none ends = absurd (cc)
 not_whole (x ∷ xs) last past e none ends =
     let same : x ≡ last = cc in
     ends_not (is_end last.r) ends (subst (λ y. is_end y.r ≡ false) same none.0)
 
 one_whole : (bytes : List ℕ) (unit : ℕ) (wanted : List Pair) (last : Item) (past : List Item) (next : ℕ) (end : Item) (more : List Item) (up : ℕ)
-    → OneRecord → IsWhole bytes unit wanted last past next → IsWhole bytes unit wanted end more up → (last ∷ past) ≡ (end ∷ more)
+    → OneRecord → IsWholeFile bytes unit wanted last past next → IsWholeFile bytes unit wanted end more up → (last ∷ past) ≡ (end ∷ more)
 one_whole bytes unit wanted last past next end more up law p q =
     elim (compare bytes (last ∷ past) next (end ∷ more) up law (p.stands, p.read.run) (q.stands, q.read.run)) [
       | inl same ↦ same.0
@@ -255,7 +255,7 @@ one_whole bytes unit wanted last past next end more up law p q =
 
 -- a fault of one record isn't in a whole file
 not_within : (bytes : List ℕ) (unit : ℕ) (wanted : List Pair) (last : Item) (past : List Item) (next : ℕ) (bad : OasBad)
-    → OneRecord → RecordOrFault → IsWhole bytes unit wanted last past next → IsFaultWithin bytes unit wanted bad → ⊥
+    → OneRecord → RecordOrFault → IsWholeFile bytes unit wanted last past next → IsFaultWithin bytes unit wanted bad → ⊥
 not_within bytes unit wanted last past next bad law apart p f =
     elim (compare bytes f.past f.at (last ∷ past) next law f.read.run (p.stands, p.read.run)) [
       | inl same ↦ not_whole f.past last past same.0 f.read.goes_on p.ends
@@ -267,7 +267,7 @@ not_within bytes unit wanted last past next bad law apart p f =
 
 -- ---- names after END
 
-same_behind : (bytes : List ℕ) (all : List Item) (one other : OasBad) → IsFaultOf bytes all one → IsFaultOf bytes all other → one ≡ other
+same_behind : (bytes : List ℕ) (all : List Item) (one other : OasBad) → IsFaultOfNames bytes all one → IsFaultOfNames bytes all other → one ≡ other
 same_behind bytes all one other (inl f) (inl g) =
     f.2 ∙ ap (λ n. faults.Value n 3) (some_inj (first_unknown bytes (records_in all) all) f.0 g.0 f.1 g.1) ∙ sym g.2
 same_behind bytes all one other (inl f) (inr g) = absurd (not_some (first_unknown bytes (records_in all) all) f.0 g.2 f.1)
@@ -277,7 +277,7 @@ same_behind bytes all one other (inr f) (inr g) =
     f.4 ∙ ap (λ p. faults.Names p.0 p.1) twins ∙ sym g.4
 
 not_behind : (bytes : List ℕ) (all : List Item) (bad : OasBad) → first_unknown bytes (records_in all) all ≡ None
-    → first_twins bytes (records_in all) all ≡ None → IsFaultOf bytes all bad → ⊥
+    → first_twins bytes (records_in all) all ≡ None → IsFaultOfNames bytes all bad → ⊥
 not_behind bytes all bad known distinct (inl f) = not_some (first_unknown bytes (records_in all) all) f.0 known f.1
 not_behind bytes all bad known distinct (inr f) = not_some (first_twins bytes (records_in all) all) (f.0, f.1) distinct f.3
 
@@ -317,7 +317,7 @@ one_fault law apart cause bytes unit wanted one other (inr (inr f)) (inr (inl g)
 one_fault law apart cause bytes unit wanted one other (inr (inr f)) (inr (inr g)) =
     let same : (f.last ∷ f.past) ≡ (g.last ∷ g.past) =
     one_whole bytes unit wanted f.last f.past f.next g.last g.past g.next law f.whole g.whole in
-    same_behind bytes (g.last ∷ g.past) one other (subst (λ xs. IsFaultOf bytes xs one) same f.fault) g.fault
+    same_behind bytes (g.last ∷ g.past) one other (subst (λ xs. IsFaultOfNames bytes xs one) same f.fault) g.fault
 
 pub no_layout_with_fault : OneRecord → RecordOrFault → NoLayoutWithFault
 no_layout_with_fault law apart bytes unit wanted layout bad p (inl f) = f.begins p.whole.read.begins
@@ -326,4 +326,4 @@ no_layout_with_fault law apart bytes unit wanted layout bad p (inr (inl f)) =
 no_layout_with_fault law apart bytes unit wanted layout bad p (inr (inr f)) =
     let same : (f.last ∷ f.past) ≡ (p.last ∷ p.past) =
     one_whole bytes unit wanted f.last f.past f.next p.last p.past p.next law f.whole p.whole in
-    not_behind bytes (p.last ∷ p.past) bad p.known p.distinct (subst (λ xs. IsFaultOf bytes xs bad) same f.fault)
+    not_behind bytes (p.last ∷ p.past) bad p.known p.distinct (subst (λ xs. IsFaultOfNames bytes xs bad) same f.fault)

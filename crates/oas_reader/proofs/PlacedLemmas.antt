@@ -12,8 +12,8 @@ use Rattle.oas_shapes.specs.declared.drawing.Undrawn.{Undrawn}
 use Rattle.oas_shapes.specs.declared.drawing.Undrawn.TheVariants as undrawns
 use Rattle.oas_reader.specs.Drawn.{IsRefusedBy, bad_at, is_first}
 use Rattle.oas_reader.specs.Placed.{KeepsPlaced, KeepsOffsetsIn, KeepsTurned, magnification_in, angle_in}
-use Rattle.oas_reader.specs.Reals.{IsFactor, IsQuarterAngle}
-use Rattle.oas_reader.specs.Rules.{IsNamed}
+use Rattle.oas_reader.specs.Reals.{IsOasisFactor, IsOasisAngle}
+use Rattle.oas_reader.specs.Rules.{IsNameWhereWritten}
 use Rattle.oas_reader.specs.declared.bodies.Turning.{Turning}
 use Rattle.oas_reader.specs.declared.refusing.OasBad.{OasBad}
 
@@ -33,8 +33,8 @@ lowest_some rep rule low = record {
 
 -- ---- the name and the turning
 
-pub turned : (bytes : List ℕ) (called : Option Called) (turning : Turning) (rule : ℕ) → IsNamed bytes called
-    → IsFactor (magnification_in turning) → IsQuarterAngle (angle_in turning) → KeepsTurned bytes called turning rule
+pub turned : (bytes : List ℕ) (called : Option Called) (turning : Turning) (rule : ℕ) → IsNameWhereWritten bytes called
+    → IsOasisFactor (magnification_in turning) → IsOasisAngle (angle_in turning) → KeepsTurned bytes called turning rule
 turned bytes called turning rule name magnification angle = record {
   name = λ e. name;
   magnification = λ e. magnification;

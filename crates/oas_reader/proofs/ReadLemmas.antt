@@ -20,7 +20,7 @@ use Rattle.oas_reader.specs.Items.{Item, records_in, tables_at_end, magic, is_en
 use Rattle.oas_reader.specs.Names.{is_unnumbered}
 use Rattle.oas_reader.specs.Order.{is_in_order}
 use Rattle.oas_reader.specs.Readers.{IsReaderOf, IsReaderWithin}
-use Rattle.oas_reader.specs.Reading.{item, IsAllowed, IsReadUpTo, IsWhole, IsLayoutOf, IsRefused, IsFaultOf, IsFirstFault}
+use Rattle.oas_reader.specs.Reading.{item, IsItemAllowed, AreItemsReadUpTo, IsWholeFile, IsOasisLayoutOf, IsRefused, IsFaultOfNames, IsFirstOasisFault}
 use Rattle.oas_reader.specs.declared.reading.Reader.{Reader}
 use Rattle.oas_reader.specs.declared.refusing.OasBad.{OasBad}
 use Rattle.oas_reader.proofs.CountLemmas.{count_few, items_few, counts_few}
@@ -86,7 +86,7 @@ counts_small bytes unit sorted at reader s small =
     (counts_few sorted s.past (2 ^ 63) (omega (arith, few, least, small)))
 
 read_up_to : (bytes : List ℕ) (unit : ℕ) (wanted sorted : List Pair) (at : ℕ) (reader : Reader) → (s : IsStanding bytes unit sorted at reader)
-    → AreSamePairs wanted sorted → IsReadUpTo bytes unit wanted s.past at
+    → AreSamePairs wanted sorted → AreItemsReadUpTo bytes unit wanted s.past at
 read_up_to bytes unit wanted sorted at reader s same = record {
   begins = s.begins;
   run = s.run;
@@ -104,7 +104,7 @@ stands_there bytes unit wanted sorted at reader r next s same stands =
 
 pub lexical_first : (bytes : List ℕ) (unit : ℕ) (wanted sorted : List Pair) (at : ℕ) (reader : Reader) (cause : RecordBad)
     (refusal : Refusal OasBad) → IsStanding bytes unit sorted at reader → AreSamePairs wanted sorted
-    → NoRecord bytes at reader.tables cause → refusal ≡ lexical_refusal cause at → IsForFault (IsFirstFault bytes unit wanted) refusal
+    → NoRecord bytes at reader.tables cause → refusal ≡ lexical_refusal cause at → IsForFault (IsFirstOasisFault bytes unit wanted) refusal
 lexical_first bytes unit wanted sorted at reader cause refusal s same stands told =
     rw told (inr (inl (record {
       past = s.past;
@@ -119,7 +119,7 @@ lexical_first bytes unit wanted sorted at reader cause refusal s same stands tol
 
 pub refused_first : (bytes : List ℕ) (unit : ℕ) (wanted sorted : List Pair) (at : ℕ) (reader : Reader) (r : OasRecord) (next : ℕ)
     (refusal : Refusal OasBad) → (s : IsStanding bytes unit sorted at reader) → AreSamePairs wanted sorted → HasRecord bytes at reader.tables r next
-    → IsForFault (IsRefused bytes unit wanted s.past at r next) refusal → IsForFault (IsFirstFault bytes unit wanted) refusal
+    → IsForFault (IsRefused bytes unit wanted s.past at r next) refusal → IsForFault (IsFirstOasisFault bytes unit wanted) refusal
 refused_first bytes unit wanted sorted at reader r next (Fault bad) s same stands refused =
     inr (inl (record {
       past = s.past;
@@ -139,7 +139,7 @@ refused_first bytes unit wanted sorted at reader r next NoMemory s same stands r
 -- the record is in order and allowed, and the reader has taken it
 pub record IsTakenOn (bytes : List ℕ) (unit : ℕ) (wanted : List Pair) (past : List Item) (at : ℕ) (r : OasRecord) (next : ℕ) (new : Reader) : Type 0 where
   pub order : is_in_order (records_in past) r ≡ true
-  pub allowed : IsAllowed bytes unit wanted past at r next
+  pub allowed : IsItemAllowed bytes unit wanted past at r next
   pub reader_is : IsReaderOf bytes wanted (item at r ∷ past) new
 
 pub stands_on : (bytes : List ℕ) (unit : ℕ) (sorted : List Pair) (at : ℕ) (old new : Reader) (r : OasRecord) (next : ℕ)
@@ -165,7 +165,7 @@ stands_on bytes unit sorted at old new r next s stands onward least more within 
 
 whole : (bytes : List ℕ) (unit : ℕ) (wanted sorted : List Pair) (at : ℕ) (old new : Reader) (r : OasRecord) (next : ℕ)
     → (s : IsStanding bytes unit sorted at old) → AreSamePairs wanted sorted → HasRecord bytes at old.tables r next → is_end r ≡ true
-    → IsTakenOn bytes unit wanted s.past at r next new → IsWhole bytes unit wanted (item at r) s.past next
+    → IsTakenOn bytes unit wanted s.past at r next new → IsWholeFile bytes unit wanted (item at r) s.past next
 whole bytes unit wanted sorted at old new r next s same stands end taken = record {
   read = read_up_to bytes unit wanted sorted at old s same;
   stands = stands_there bytes unit wanted sorted at old r next s same stands;
@@ -177,7 +177,7 @@ whole bytes unit wanted sorted at old new r next s same stands end taken = recor
 pub ended_ok : (bytes : List ℕ) (unit : ℕ) (wanted sorted : List Pair) (at : ℕ) (old new : Reader) (r : OasRecord) (next : ℕ)
     (result : Result Layout (Refusal OasBad)) → (s : IsStanding bytes unit sorted at old) → AreSamePairs wanted sorted → HasRecord bytes at old.tables r next
     → is_end r ≡ true → IsTakenOn bytes unit wanted s.past at r next new → IfOk result (IsLayoutBehind bytes wanted (item at r ∷ s.past))
-    → IfOk result (λ layout. IsLayoutOf bytes unit wanted layout)
+    → IfOk result (λ layout. IsOasisLayoutOf bytes unit wanted layout)
 ended_ok bytes unit wanted sorted at old new r next (Err bad) s same stands end taken behind = tt
 ended_ok bytes unit wanted sorted at old new r next (Ok layout) s same stands end taken behind = record {
   last = item at r;
@@ -192,7 +192,7 @@ ended_ok bytes unit wanted sorted at old new r next (Ok layout) s same stands en
 pub ended_bad : (bytes : List ℕ) (unit : ℕ) (wanted sorted : List Pair) (at : ℕ) (old new : Reader) (r : OasRecord) (next : ℕ)
     (result : Result Layout (Refusal OasBad)) → (s : IsStanding bytes unit sorted at old) → AreSamePairs wanted sorted
     → HasRecord bytes at old.tables r next → is_end r ≡ true → IsTakenOn bytes unit wanted s.past at r next new
-    → IfFault result (IsFaultOf bytes (item at r ∷ s.past)) → IfFault result (IsFirstFault bytes unit wanted)
+    → IfFault result (IsFaultOfNames bytes (item at r ∷ s.past)) → IfFault result (IsFirstOasisFault bytes unit wanted)
 ended_bad bytes unit wanted sorted at old new r next (Ok layout) s same stands end taken fault = tt
 ended_bad bytes unit wanted sorted at old new r next (Err NoMemory) s same stands end taken fault = tt
 ended_bad bytes unit wanted sorted at old new r next (Err (Fault bad)) s same stands end taken fault =
@@ -207,16 +207,16 @@ ended_bad bytes unit wanted sorted at old new r next (Err (Fault bad)) s same st
 -- ---- every layout and every fault
 
 pub every_layout : (bytes : List ℕ) (unit : ℕ) (wanted : List Pair) (result : Result Layout (Refusal OasBad))
-    → IfOk result (λ layout. IsLayoutOf bytes unit wanted layout) → IfFault result (IsFirstFault bytes unit wanted)
-    → (layout : Layout) → IsLayoutOf bytes unit wanted layout → (result ≡ Ok layout) ⊎ (result ≡ Err NoMemory)
+    → IfOk result (λ layout. IsOasisLayoutOf bytes unit wanted layout) → IfFault result (IsFirstOasisFault bytes unit wanted)
+    → (layout : Layout) → IsOasisLayoutOf bytes unit wanted layout → (result ≡ Ok layout) ⊎ (result ≡ Err NoMemory)
 every_layout bytes unit wanted (Ok one) found fault layout is = inl (ap Ok (one_layout one_law bytes unit wanted one layout found is))
 every_layout bytes unit wanted (Err NoMemory) found fault layout is = inr refl
 every_layout bytes unit wanted (Err (Fault bad)) found fault layout is =
     absurd (no_layout_with_fault one_law apart_law bytes unit wanted layout bad is fault)
 
 pub every_first_fault : (bytes : List ℕ) (unit : ℕ) (wanted : List Pair) (result : Result Layout (Refusal OasBad))
-    → IfOk result (λ layout. IsLayoutOf bytes unit wanted layout) → IfFault result (IsFirstFault bytes unit wanted)
-    → (bad : OasBad) → IsFirstFault bytes unit wanted bad → (result ≡ Err (Fault bad)) ⊎ (result ≡ Err NoMemory)
+    → IfOk result (λ layout. IsOasisLayoutOf bytes unit wanted layout) → IfFault result (IsFirstOasisFault bytes unit wanted)
+    → (bad : OasBad) → IsFirstOasisFault bytes unit wanted bad → (result ≡ Err (Fault bad)) ⊎ (result ≡ Err NoMemory)
 every_first_fault bytes unit wanted (Ok layout) found fault bad is =
     absurd (no_layout_with_fault one_law apart_law bytes unit wanted layout bad found is)
 every_first_fault bytes unit wanted (Err NoMemory) found fault bad is = inr refl

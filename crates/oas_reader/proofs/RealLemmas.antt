@@ -6,9 +6,9 @@ use Rattle.std.proofs.Math.Pow.{pow-lt}
 use Rattle.std.proofs.lemmas.Bool.{cases_lt}
 use Rattle.std.proofs.lemmas.Nat.{pow-add, pow_pos, div-mul-add}
 use Rattle.oas_lex.specs.Reals.{RealForm, OneNumber, TwoNumbers, FourBytes, EightBytes, form_of, sign_of, with_sign}
-use Rattle.oas_lex.specs.Reals.{top_of, bottom_of, IsQuotient, IsPower, IsIeee, IsMagnitude, IsWholeReal}
+use Rattle.oas_lex.specs.Reals.{top_of, bottom_of, IsQuotient, IsPower, IsIeee, IsMagnitude, IsWholeOasisReal}
 use Rattle.oas_lex.specs.declared.reals.Real.{Real}
-use Rattle.oas_reader.specs.Reals.{ieee_floor, floor_by, floor_of, IsFactor, IsQuarterAngle}
+use Rattle.oas_reader.specs.Reals.{ieee_floor, floor_by, floor_of, IsOasisFactor, IsOasisAngle}
 use Rattle.layout_model.proofs.ForCallers.{IsOneReal}
 
 -- ---- rounded down
@@ -82,7 +82,7 @@ floor_in (Some EightBytes) real q most p = double_floor (real.a % 2 ^ 63) q most
 floor_in None real q most p = absurd p
 
 -- a real that is a whole number is that number but for its sign
-pub floor_whole : (real : Real) (n : ℤ) → IsWholeReal real n → floor_of real ≡ unsigned_abs n
+pub floor_whole : (real : Real) (n : ℤ) → IsWholeOasisReal real n → floor_of real ≡ unsigned_abs n
 unfolding floor_of
 floor_whole real n p = floor_in (form_of real.kind) real (unsigned_abs n) p.small p.magnitude
 
@@ -97,8 +97,8 @@ neg_sign zero n e = absurd (cc)
 neg_sign (suc sign) n e = (sign, refl)
 
 -- a real is one whole number at most, which has its sign and, rounded down, its size
-pub one_real : (real : Real) (w : Option ℤ) → ((n : ℤ) → (w ≡ Some n) ↔ IsWholeReal real n)
-    → IsOneReal (IsWholeReal real) (sign_of (form_of real.kind) real) (floor_of real)
+pub one_real : (real : Real) (w : Option ℤ) → ((n : ℤ) → (w ≡ Some n) ↔ IsWholeOasisReal real n)
+    → IsOneReal (IsWholeOasisReal real) (sign_of (form_of real.kind) real) (floor_of real)
 one_real real w whole = record {
   one = λ z v a b. (let p : w ≡ Some z = (whole z).1 a in let q : w ≡ Some v = (whole v).1 b in cc);
   size_is = λ z is. floor_whole real z is;
@@ -107,8 +107,8 @@ one_real real w whole = record {
 }
 
 -- a real that isn't whole is none
-pub never_factor : (real : Real) (w : Option ℤ) → ((n : ℤ) → (w ≡ Some n) ↔ IsWholeReal real n) → w ≡ None → IsFactor (Some real) → ⊥
+pub never_factor : (real : Real) (w : Option ℤ) → ((n : ℤ) → (w ≡ Some n) ↔ IsWholeOasisReal real n) → w ≡ None → IsOasisFactor (Some real) → ⊥
 never_factor real w whole is factor = let some : w ≡ Some (pos factor.0) = (whole (pos factor.0)).1 factor.1 in absurd (cc)
 
-pub never_turn : (real : Real) (w : Option ℤ) → ((n : ℤ) → (w ≡ Some n) ↔ IsWholeReal real n) → w ≡ None → IsQuarterAngle (Some real) → ⊥
+pub never_turn : (real : Real) (w : Option ℤ) → ((n : ℤ) → (w ≡ Some n) ↔ IsWholeOasisReal real n) → w ≡ None → IsOasisAngle (Some real) → ⊥
 never_turn real w whole is angle = let some : w ≡ Some (pos 90 *ℤ angle.0) = (whole (pos 90 *ℤ angle.0)).1 angle.1 in absurd (cc)

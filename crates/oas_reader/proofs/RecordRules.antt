@@ -30,10 +30,10 @@ use Rattle.oas_reader.specs.Items.{Item, records_in}
 use Rattle.oas_reader.specs.Kept.{fields_at, has_a_pair, KeepsVersionBy, KeepsSchemeBy}
 use Rattle.oas_reader.specs.Meaning.{repetition_by, repetition_at, is_wanted, has_pair, shapes_drawn, placings_at, figure_of, at_of, brush_of}
 use Rattle.oas_reader.specs.Names.{cell_called}
-use Rattle.oas_reader.specs.Reading.{AreAllowed}
+use Rattle.oas_reader.specs.Reading.{AreItemsAllowed}
 use Rattle.oas_reader.specs.Rules.{ArePositionsNear, KeepsOffsets, KeepsName, KeepsMagnification, KeepsAngle}
 use Rattle.oas_reader.specs.Rules.{KeepsToOthers, KeepsVersion, KeepsScheme, FigureKeeps, PolygonKeeps, PathKeeps}
-use Rattle.oas_reader.specs.Rules.{KindKeeps, KeepsDrawn, Keeps}
+use Rattle.oas_reader.specs.Rules.{KindKeeps, KeepsDrawn, KeepsOasisRule}
 use Rattle.oas_reader.specs.Taking.{KeepsOwnName, wanting_of}
 use Rattle.oas_reader.specs.Undefined.{is_there, is_defined, first_undefined, undefined_of}
 
@@ -164,7 +164,7 @@ keeps_all : (bytes : List ℕ) (wanted : List Pair) (past : List OasRecord) (r :
     → (rule ≡ 1 → KeepsOffsets past r) → (rule ≡ 2 → KeepsName bytes r) → (rule ≡ 4 → KeepsMagnification r) → (rule ≡ 5 → KeepsAngle r)
     → (rule ≡ 7 → KeepsToOthers (is_wanted wanted (r ∷ past)) r) → (rule ≡ 9 → KeepsVersion bytes r)
     → (rule ≡ 10 → KeepsScheme r) → (rule ≡ 11 → HasDimensionsIn (repetition_in r))
-    → (IsTrue (is_wanted wanted (r ∷ past)) → KeepsDrawn r (r ∷ past) (repetition_at past r) rule) → Keeps bytes wanted past r rule
+    → (IsTrue (is_wanted wanted (r ∷ past)) → KeepsDrawn r (r ∷ past) (repetition_at past r) rule) → KeepsOasisRule bytes wanted past r rule
 keeps_all bytes wanted past r rule positions offsets name magnification angle other version scheme dimension drawn = record {
   positions = positions;
   offsets = offsets;
@@ -195,7 +195,7 @@ shape_all : (bytes : List ℕ) (wanted : List Pair) (past : List OasRecord) (hea
     → (rule ≡ 7 → KeepsToOthers (is_wanted wanted (records.Shape head kind ∷ past)) (records.Shape head kind))
     → (IsTrue (is_wanted wanted (records.Shape head kind ∷ past))
     → KindKeeps head kind (records.Shape head kind ∷ past) (repetition_at past (records.Shape head kind)) rule)
-    → Keeps bytes wanted past (records.Shape head kind) rule
+    → KeepsOasisRule bytes wanted past (records.Shape head kind) rule
 shape_all bytes wanted past head kind dims rule l off on other drawn =
     let r = records.Shape head kind in
     keeps_all bytes wanted past r rule l.positions (λ e. tt) (λ e. tt) (λ e. tt) (λ e. tt) other (λ e. tt) (λ e. tt)
@@ -208,7 +208,7 @@ shape_kept : (bytes : List ℕ) (wanted : List Pair) (past : List OasRecord) (he
     (fields_at (records.Shape head kind ∷ past)) (repetition_at past (records.Shape head kind)) 7)
     → KeepsGeometry bytes (shape_body head.info kind) dims (Some (is_wanted wanted (records.Shape head kind ∷ past)))
     (fields_at (records.Shape head kind ∷ past)) (repetition_at past (records.Shape head kind)) rule
-    → Keeps bytes wanted past (records.Shape head kind) rule
+    → KeepsOasisRule bytes wanted past (records.Shape head kind) rule
 shape_kept bytes wanted past head (shapes.Polygon points) dims rule l s g =
     let there = third (records.Shape head (shapes.Polygon points) ∷ past) Layer Datatype PolygonPoints _ l.defined in
     shape_all bytes wanted past head (shapes.Polygon points) dims rule l g.dimension
@@ -233,7 +233,7 @@ pub keeps_geometry : (bytes : List ℕ) (wanted : List Pair) (past : List OasRec
     → IsLookedAt bytes past r dims rule
     → (rule ≡ 11 → KeepsGeometry bytes (body_of r) dims (wanting_of wanted past r) (fields_at (r ∷ past)) (repetition_at past r) 7)
     → KeepsGeometry bytes (body_of r) dims (wanting_of wanted past r) (fields_at (r ∷ past)) (repetition_at past r) rule
-    → Keeps bytes wanted past r rule
+    → KeepsOasisRule bytes wanted past r rule
 keeps_geometry bytes wanted past (records.Start version unit offset_flag tables) dims rule l s g =
     keeps_all bytes wanted past _ rule l.positions (λ e. tt) (λ e. tt) (λ e. tt) (λ e. tt) (λ e. tt) (λ e. l.version) (λ e. tt) (λ e. tt) (λ e. tt)
 keeps_geometry bytes wanted past (records.End tables padding scheme validation) dims rule l s g =
@@ -260,7 +260,7 @@ some_is true e = refl
 some_is false e = absurd (cc)
 
 shape_geometry : (bytes : List ℕ) (wanted : List Pair) (past : List OasRecord) (head : ShapeHead) (kind : ShapeKind) (dims : Bool) (rule : ℕ)
-    → (IsTrue dims ↔ HasDimensionsIn head.repetition) → Keeps bytes wanted past (records.Shape head kind) rule
+    → (IsTrue dims ↔ HasDimensionsIn head.repetition) → KeepsOasisRule bytes wanted past (records.Shape head kind) rule
     → KeepsGeometry bytes (shape_body head.info kind) dims (Some (is_wanted wanted (records.Shape head kind ∷ past)))
     (fields_at (records.Shape head kind ∷ past)) (repetition_at past (records.Shape head kind)) rule
 shape_geometry bytes wanted past head (shapes.Circle radius) dims rule d k =
@@ -272,7 +272,7 @@ shape_geometry bytes wanted past head kind dims rule d k =
 
 -- a record that keeps all rules keeps those of its geometry
 pub geometry_keeps : (bytes : List ℕ) (wanted : List Pair) (past : List OasRecord) (r : OasRecord) (dims : Bool) (rule : ℕ)
-    → (IsTrue dims ↔ HasDimensionsIn (repetition_in r)) → HasDimensionsIn (repetition_of past) → Keeps bytes wanted past r rule
+    → (IsTrue dims ↔ HasDimensionsIn (repetition_in r)) → HasDimensionsIn (repetition_of past) → KeepsOasisRule bytes wanted past r rule
     → KeepsGeometry bytes (body_of r) dims (wanting_of wanted past r) (fields_at (r ∷ past)) (repetition_at past r) rule
 geometry_keeps bytes wanted past (records.Name kinds.Cell text number) dims rule d before k =
     record { drawn = λ on. absurd (cc); dimension = λ off e. d.1 (k.dimension e) }
@@ -340,7 +340,7 @@ drawn_below (records.Shape head kind) all rep rule less = kind_below head kind a
 drawn_below r all rep rule less = tt
 
 pub positions_lowest : (bytes : List ℕ) (wanted : List Pair) (past : List OasRecord) (r : OasRecord) → (ArePositionsNear (r ∷ past) → ⊥)
-    → IsLowest (Keeps bytes wanted past r) 1
+    → IsLowest (KeepsOasisRule bytes wanted past r) 1
 positions_lowest bytes wanted past r wrong = record {
   broken = λ k. wrong (k.positions refl);
   lower = λ other less.
@@ -350,7 +350,7 @@ positions_lowest bytes wanted past r wrong = record {
 }
 
 pub version_lowest : (bytes : List ℕ) (wanted : List Pair) (past : List OasRecord) (r : OasRecord) → (KeepsVersionBy bytes (body_of r) → ⊥)
-    → ArePositionsNear (r ∷ past) → IsLowest (Keeps bytes wanted past r) 9
+    → ArePositionsNear (r ∷ past) → IsLowest (KeepsOasisRule bytes wanted past r) 9
 version_lowest bytes wanted past (records.Start version unit offset_flag tables) wrong near = record {
   broken = λ k. wrong (k.version refl);
   lower = λ other less.
@@ -362,7 +362,7 @@ version_lowest bytes wanted past (records.Shape head (shapes.Circle radius)) wro
 version_lowest bytes wanted past r wrong near = absurd (wrong tt)
 
 pub scheme_lowest : (bytes : List ℕ) (wanted : List Pair) (past : List OasRecord) (r : OasRecord) → (KeepsSchemeBy (body_of r) → ⊥)
-    → ArePositionsNear (r ∷ past) → IsLowest (Keeps bytes wanted past r) 10
+    → ArePositionsNear (r ∷ past) → IsLowest (KeepsOasisRule bytes wanted past r) 10
 scheme_lowest bytes wanted past (records.End tables padding scheme validation) wrong near = record {
   broken = λ k. wrong (k.scheme refl);
   lower = λ other less.
@@ -397,7 +397,7 @@ nothing_last : repetition_of [] ≡ None
 unfolding repetition_of
 nothing_last = refl
 
-pub dimensions_behind : (bytes : List ℕ) (unit : ℕ) (wanted : List Pair) (past : List Item) (at : ℕ) → AreAllowed bytes unit wanted past at
+pub dimensions_behind : (bytes : List ℕ) (unit : ℕ) (wanted : List Pair) (past : List Item) (at : ℕ) → AreItemsAllowed bytes unit wanted past at
     → HasDimensionsIn (repetition_of (records_in past))
 dimensions_behind bytes unit wanted [] at allowed = subst HasDimensionsIn (sym nothing_last) tt
 dimensions_behind bytes unit wanted (last ∷ past) at allowed =

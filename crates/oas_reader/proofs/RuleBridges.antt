@@ -22,7 +22,7 @@ use Rattle.layout_model.specs.Pairs.{same_pair, AreSamePairs}
 use Rattle.oas_reader.specs.Meaning.{repetition_at, pair_of, has_pair, shapes_at, placings_at, given_in_cell}
 use Rattle.oas_reader.specs.Reading.{item}
 use Rattle.oas_reader.specs.Readers.{begun_by, begun_of, placings_of, whole_cell, whole_of, AreDraftsOf}
-use Rattle.oas_reader.specs.Rules.{ArePositionsNear, Keeps}
+use Rattle.oas_reader.specs.Rules.{ArePositionsNear, KeepsOasisRule}
 use Rattle.oas_reader.specs.Taking.{IsTaken, KeepsOwnName, wanting_of, AreValuesKept, IsBadValue}
 use Rattle.oas_reader.specs.Undefined.{is_there, undefined_of}
 use Rattle.oas_reader.specs.declared.bodies.Body.{Body}
@@ -175,7 +175,7 @@ look_bad bytes wanted sorted past r outline fields at bad t (inr (inr (inr (defi
 lowest_of : (bytes : List ℕ) (wanted sorted : List Pair) (past : List OasRecord) (r : OasRecord) (outline : Outline) (fields : Fields)
     (wanting : Option Bool) (rule : ℕ) → IsBridge wanted sorted past r outline fields → IsLooked bytes sorted outline fields wanting
     → IsLowest (KeepsGeometry bytes outline.body outline.has_dimensions wanting fields (rep_in outline fields)) rule
-    → IsLowest (Keeps bytes wanted past r) rule
+    → IsLowest (KeepsOasisRule bytes wanted past r) rule
 lowest_of bytes wanted sorted past r outline fields wanting rule b l low =
     let broken : KeepsGeometry bytes (body_of r) outline.has_dimensions (wanting_of wanted past r) (fields_at (r ∷ past)) (repetition_at past r) rule → ⊥ =
     λ k. low.broken (geometry_from bytes wanted sorted past r outline fields wanting rule b l k) in

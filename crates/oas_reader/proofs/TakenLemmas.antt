@@ -28,7 +28,7 @@ use Rattle.oas_reader.specs.Order.{ids_of, may_follow, is_in_order}
 use Rattle.oas_reader.specs.Places.{IsPlace}
 use Rattle.oas_reader.specs.Plain.{plain}
 use Rattle.oas_reader.specs.Readers.{AreDraftsOf}
-use Rattle.oas_reader.specs.Reading.{item, IsAllowed, IsRefused}
+use Rattle.oas_reader.specs.Reading.{item, IsItemAllowed, IsRefused}
 use Rattle.oas_reader.specs.Rules.{KeepsToOthers}
 use Rattle.oas_reader.specs.Taking.{IsTaken, wanting_of, KeepsOwnName, AreValuesKept, IsBadValue, IsBadName}
 use Rattle.oas_reader.specs.Undefined.{is_there}
@@ -209,7 +209,7 @@ taken_on wanted sorted past r outline fields same body repeats dimensions values
 }
 
 pub body_allowed : (bytes : List ℕ) (unit : ℕ) (wanted : List Pair) (past : List Item) (at : ℕ) (r : OasRecord) (next : ℕ) (body : Body)
-    → body ≡ body_of r → IsBodyKept bytes wanted past r → KeepsFile bytes unit body at next → IsAllowed bytes unit wanted past at r next
+    → body ≡ body_of r → IsBodyKept bytes wanted past r → KeepsFile bytes unit body at next → IsItemAllowed bytes unit wanted past at r next
 body_allowed bytes unit wanted past at r next body is kept keeps =
     let file : KeepsFile bytes unit (body_of r) at next = subst (λ b. KeepsFile bytes unit b at next) is keeps in
     record {
@@ -228,7 +228,7 @@ plain_taken wanted sorted past p fields same values last =
     taken_on wanted sorted past (rectangle_of p) plain fields same refl refl (λ _. tt, λ _. refl) values last
 
 pub plain_allowed : (bytes : List ℕ) (unit : ℕ) (wanted : List Pair) (past : List Item) (at : ℕ) (p : PlainRectangle) (next : ℕ)
-    → IsBodyKept bytes wanted past (rectangle_of p) → IsAllowed bytes unit wanted past at (rectangle_of p) next
+    → IsBodyKept bytes wanted past (rectangle_of p) → IsItemAllowed bytes unit wanted past at (rectangle_of p) next
 plain_allowed bytes unit wanted past at p next kept = body_allowed bytes unit wanted past at (rectangle_of p) next bodies.Rectangle refl kept tt
 
 -- ---- the table offsets

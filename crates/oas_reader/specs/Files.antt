@@ -4,18 +4,18 @@ use Rattle.geo_stream.specs.declared.refusal.Refusal.{Refusal}
 use Rattle.geo_stream.specs.declared.refusal.Refusal.TheVariants.{Fault}
 use Rattle.layout_model.specs.declared.cells.Layout.{Layout}
 use Rattle.layout_model.specs.declared.pair.Pair.{Pair}
-use Rattle.oas_lex.specs.Reals.{IsWholeReal}
+use Rattle.oas_lex.specs.Reals.{IsWholeOasisReal}
 use Rattle.oas_record.specs.declared.faults.RecordBad.{RecordBad}
 use Rattle.oas_record.specs.declared.records.OasRecord.{OasRecord}
 use Rattle.oas_fields.specs.Values.{AreFields}
 use Rattle.oas_fields.specs.declared.fields.Fields.{Fields}
 use Rattle.oas_fields.specs.declared.variables.Variable.{Variable}
-use Rattle.oas_reader.specs.Items.{Item, records_in, magic, IsRun, NoneEnds}
+use Rattle.oas_reader.specs.Items.{Item, records_in, magic, AreItemsEndToEnd, NoItemEnds}
 use Rattle.oas_reader.specs.Meaning.{layout_of}
 use Rattle.oas_reader.specs.Names.{conflict_of, first_unknown, first_twins}
 use Rattle.oas_reader.specs.Readers.{IsReaderOf, IsReaderWithin}
-use Rattle.oas_reader.specs.Reading.{IsTail, AreAllowed}
-use Rattle.oas_reader.specs.Rules.{KeepsRules, IsLowestBroken}
+use Rattle.oas_reader.specs.Reading.{IsTail, AreItemsAllowed}
+use Rattle.oas_reader.specs.Rules.{KeepsOasisRules, IsLowestBrokenByItem}
 use Rattle.oas_reader.specs.Undefined.{undefined_of}
 use Rattle.layout_model.specs.Pairs.{AreSamePairs}
 use Rattle.oas_reader.specs.declared.bodies.Body.{Body}
@@ -27,13 +27,13 @@ use Rattle.oas_reader.specs.declared.refusing.OasBad.TheVariants as faults
 -- ---- START and END
 
 abbrev pub KeepsFile : List ℕ → ℕ → Body → ℕ → ℕ → Type 0
-KeepsFile bytes unit (bodies.Start version real offset_flag) at next = IsWholeReal real (pos unit)
+KeepsFile bytes unit (bodies.Start version real offset_flag) at next = IsWholeOasisReal real (pos unit)
 KeepsFile bytes unit (bodies.End scheme) at next = IsTail bytes at next
 KeepsFile bytes unit _ at next = Unit {0}
 
 abbrev pub BreaksFile : List ℕ → ℕ → Body → ℕ → ℕ → OasBad → Type 0
 BreaksFile bytes unit (bodies.Start version real offset_flag) at next bad =
-    (IsWholeReal real (pos unit) → ⊥) × (bad ≡ faults.Unit at)
+    (IsWholeOasisReal real (pos unit) → ⊥) × (bad ≡ faults.Unit at)
 BreaksFile bytes unit (bodies.End scheme) at next bad = (IsTail bytes at next → ⊥) × (bad ≡ faults.Tail at)
 BreaksFile bytes unit _ at next bad = ⊥
 
@@ -57,16 +57,16 @@ pub record HaveRecords (fields : Fields) : Type 0 where
 -- the record's values and names are allowed
 pub record IsBodyKept (bytes : List ℕ) (wanted : List Pair) (past : List Item) (r : OasRecord) : Type 0 where
   pub defined : undefined_of (records_in past) r ≡ None
-  pub rules : KeepsRules bytes wanted (records_in past) r
+  pub rules : KeepsOasisRules bytes wanted (records_in past) r
   pub names : conflict_of bytes past r ≡ None
 
 -- a value that isn't there, the lowest rule that is broken, or a conflict with an earlier record
 abbrev pub IsBadBody : List ℕ → List Pair → List Item → ℕ → OasRecord → OasBad → Type 0
 IsBadBody bytes wanted past at r bad =
     ((variable : Variable) × (undefined_of (records_in past) r ≡ Some variable) × (bad ≡ faults.Undefined at variable))
-    ⊎ ((rule : ℕ) × (undefined_of (records_in past) r ≡ None) × IsLowestBroken bytes wanted (records_in past) r rule
+    ⊎ ((rule : ℕ) × (undefined_of (records_in past) r ≡ None) × IsLowestBrokenByItem bytes wanted (records_in past) r rule
     × (bad ≡ faults.Value at rule))
-    ⊎ ((first : ℕ) × (undefined_of (records_in past) r ≡ None) × KeepsRules bytes wanted (records_in past) r
+    ⊎ ((first : ℕ) × (undefined_of (records_in past) r ≡ None) × KeepsOasisRules bytes wanted (records_in past) r
     × (conflict_of bytes past r ≡ Some first) × (bad ≡ faults.Names first at))
 
 -- ---- the records so far
@@ -75,12 +75,12 @@ IsBadBody bytes wanted past at r bad =
 pub record IsStanding (bytes : List ℕ) (unit : ℕ) (sorted : List Pair) (at : ℕ) (reader : Reader) : Type 0 where
   pub past : List Item
   pub begins : take 13 bytes ≡ magic
-  pub run : IsRun bytes past at
-  pub goes_on : NoneEnds past
+  pub run : AreItemsEndToEnd bytes past at
+  pub goes_on : NoItemEnds past
   pub few : length past ≤ at
   pub least : at ≤ length bytes
   pub within : IsReaderWithin bytes reader
-  pub allowed : (wanted : List Pair) → AreSamePairs wanted sorted → AreAllowed bytes unit wanted past at
+  pub allowed : (wanted : List Pair) → AreSamePairs wanted sorted → AreItemsAllowed bytes unit wanted past at
   pub reader_is : (wanted : List Pair) → AreSamePairs wanted sorted → IsReaderOf bytes wanted past reader
 
 -- ---- after END

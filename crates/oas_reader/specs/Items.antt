@@ -27,19 +27,19 @@ abbrev pub magic : List ℕ
 magic = 0x25 ∷ 0x53 ∷ 0x45 ∷ 0x4D ∷ 0x49 ∷ 0x2D ∷ 0x4F ∷ 0x41 ∷ 0x53 ∷ 0x49 ∷ 0x53 ∷ 0x0D ∷ 0x0A ∷ []
 
 -- after them these records stand end to end up to an offset
-abbrev pub IsRun : List ℕ → List Item → ℕ → Type 0
-IsRun bytes [] at = at ≡ 13
-IsRun bytes (item ∷ past) at =
-    HasRecord bytes item.at (tables_at_end (records_in past)) item.r at × IsRun bytes past item.at
+abbrev pub AreItemsEndToEnd : List ℕ → List Item → ℕ → Type 0
+AreItemsEndToEnd bytes [] at = at ≡ 13
+AreItemsEndToEnd bytes (item ∷ past) at =
+    HasRecord bytes item.at (tables_at_end (records_in past)) item.r at × AreItemsEndToEnd bytes past item.at
 
 abbrev pub is_end : OasRecord → Bool
 is_end (records.End tables padding scheme validation) = true
 is_end _ = false
 
 -- none of them is END
-abbrev pub NoneEnds : List Item → Type 0
-NoneEnds [] = Unit {0}
-NoneEnds (item ∷ past) = (is_end item.r ≡ false) × NoneEnds past
+abbrev pub NoItemEnds : List Item → Type 0
+NoItemEnds [] = Unit {0}
+NoItemEnds (item ∷ past) = (is_end item.r ≡ false) × NoItemEnds past
 
 -- the bytes of a string
 abbrev pub text_in : List ℕ → (ℕ × ℕ) → List ℕ

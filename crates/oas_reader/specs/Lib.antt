@@ -1,12 +1,12 @@
 -- ---- what is promised, in reading order
-pub mod Items
-pub mod Order
-pub mod Names
-pub mod Undefined
-pub mod Reals
-pub mod Meaning
-pub mod Rules
 pub mod Reading
+pub mod Items
+pub mod Names
+pub mod Meaning
+pub mod Order
+pub mod Undefined
+pub mod Rules
+pub mod Reals
 -- ---- what is kept inside
 pub mod Bodies
 pub mod Kept

@@ -9,8 +9,8 @@ use Rattle.oas_shapes.specs.Plane.{doubled}
 use Rattle.oas_shapes.specs.Repetitions.{offsets_in, HasDimensionsIn}
 use Rattle.oas_shapes.specs.Rules.{AreNear}
 use Rattle.oas_reader.specs.Meaning.{Placing, point_at}
-use Rattle.oas_reader.specs.Reals.{IsFactor, IsQuarterAngle, factor_of, turns_of}
-use Rattle.oas_reader.specs.Rules.{IsNamed}
+use Rattle.oas_reader.specs.Reals.{IsOasisFactor, IsOasisAngle, factor_of, turns_of}
+use Rattle.oas_reader.specs.Rules.{IsNameWhereWritten}
 use Rattle.oas_reader.specs.declared.bodies.Turning.{Turning}
 use Rattle.oas_reader.specs.declared.bodies.Turning.TheVariants as turnings
 use Rattle.oas_reader.specs.declared.refusing.OasBad.{OasBad}
@@ -37,9 +37,9 @@ IsTurning (turnings.Reals magnification angle) = Unit {0}
 -- a placement that writes its cell so, or doesn't, with the repetition in force, keeps the rule
 pub record KeepsPlaced (bytes : List ℕ) (called : Option Called) (turning : Turning) (rep : Option Rep) (rule : ℕ) : Type 0 where
   pub near : rule ≡ 1 → AreNear (offsets_in rep)
-  pub name : rule ≡ 2 → IsNamed bytes called
-  pub magnification : rule ≡ 4 → IsFactor (magnification_in turning)
-  pub angle : rule ≡ 5 → IsQuarterAngle (angle_in turning)
+  pub name : rule ≡ 2 → IsNameWhereWritten bytes called
+  pub magnification : rule ≡ 4 → IsOasisFactor (magnification_in turning)
+  pub angle : rule ≡ 5 → IsOasisAngle (angle_in turning)
   pub dimension : rule ≡ 11 → HasDimensionsIn rep
 
 -- its offsets keep the rule
@@ -49,15 +49,15 @@ pub record KeepsOffsetsIn (rep : Option Rep) (rule : ℕ) : Type 0 where
 
 -- its name and its turning do
 pub record KeepsTurned (bytes : List ℕ) (called : Option Called) (turning : Turning) (rule : ℕ) : Type 0 where
-  pub name : rule ≡ 2 → IsNamed bytes called
-  pub magnification : rule ≡ 4 → IsFactor (magnification_in turning)
-  pub angle : rule ≡ 5 → IsQuarterAngle (angle_in turning)
+  pub name : rule ≡ 2 → IsNameWhereWritten bytes called
+  pub magnification : rule ≡ 4 → IsOasisFactor (magnification_in turning)
+  pub angle : rule ≡ 5 → IsOasisAngle (angle_in turning)
 
 -- the magnification is none that is allowed, or it is, and the angle isn't
 abbrev pub IsBadTurning : Turning → ℕ → OasBad → Type 0
 IsBadTurning turning at bad =
-    ((IsFactor (magnification_in turning) → ⊥) × (bad ≡ faults.Value at 4))
-    ⊎ (IsFactor (magnification_in turning) × (IsQuarterAngle (angle_in turning) → ⊥) × (bad ≡ faults.Value at 5))
+    ((IsOasisFactor (magnification_in turning) → ⊥) × (bad ≡ faults.Value at 4))
+    ⊎ (IsOasisFactor (magnification_in turning) × (IsOasisAngle (angle_in turning) → ⊥) × (bad ≡ faults.Value at 5))
 
 -- what it gives
 abbrev pub placed_by : Fields → Bool → Turning → Option Rep → Placing

@@ -1,7 +1,7 @@
 -- What the real of a magnification or an angle is, rounded to 0 to a whole number: exact where it is one.
 use Rattle.std.specs.Prelude.{ℕ, ◌+◌, ◌*◌, ◌/◌, ◌%◌, ◌^◌, Option, Some, None}
 use Rattle.layout_model.specs.Turns.{turns_by, IsFactorBy, IsQuarterAngleBy}
-use Rattle.oas_lex.specs.Reals.{RealForm, OneNumber, TwoNumbers, FourBytes, EightBytes, form_of, sign_of, top_of, bottom_of, IsWholeReal}
+use Rattle.oas_lex.specs.Reals.{RealForm, OneNumber, TwoNumbers, FourBytes, EightBytes, form_of, sign_of, top_of, bottom_of, IsWholeOasisReal}
 use Rattle.oas_lex.specs.declared.reals.Real.{Real}
 
 -- the bits of an IEEE number without its sign, with so many fraction bits and this bias
@@ -32,11 +32,11 @@ turns_of (Some real) = turns_by (sign_of (form_of real.kind) real) (floor_of rea
 -- ---- what is allowed
 
 -- a whole number from 1 to 16
-abbrev pub IsFactor : Option Real → Type 0
-IsFactor None = Unit {0}
-IsFactor (Some real) = IsFactorBy (IsWholeReal real)
+abbrev pub IsOasisFactor : Option Real → Type 0
+IsOasisFactor None = Unit {0}
+IsOasisFactor (Some real) = IsFactorBy (IsWholeOasisReal real)
 
 -- a multiple of 90 from -360 to 360
-abbrev pub IsQuarterAngle : Option Real → Type 0
-IsQuarterAngle None = Unit {0}
-IsQuarterAngle (Some real) = IsQuarterAngleBy (IsWholeReal real)
+abbrev pub IsOasisAngle : Option Real → Type 0
+IsOasisAngle None = Unit {0}
+IsOasisAngle (Some real) = IsQuarterAngleBy (IsWholeOasisReal real)

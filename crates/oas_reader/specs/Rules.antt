@@ -23,13 +23,13 @@ use Rattle.oas_record.specs.declared.shapes.ShapeHead.{ShapeHead}
 use Rattle.oas_record.specs.declared.shapes.ShapeKind.{ShapeKind}
 use Rattle.oas_record.specs.declared.shapes.ShapeKind.TheVariants as shapes
 use Rattle.oas_shapes.specs.Repetitions.{HasDimensionsIn, offsets_in}
-use Rattle.oas_shapes.specs.Rules.{AreNear, KeepsFigure, KeepsPolygon, KeepsPath, IsLowest}
+use Rattle.oas_shapes.specs.Rules.{AreNear, KeepsFigure, KeepsPolygon, KeepsOasisPath, IsLowest}
 use Rattle.oas_shapes.specs.declared.figures.Brush.{Brush}
 use Rattle.oas_shapes.specs.declared.figures.Figure.{Figure}
 use Rattle.oas_fields.specs.Values.{polygon_points_of, path_points_of, placement_of, geometry_of, text_of, IsPlaceWithin}
 use Rattle.oas_reader.specs.Items.{text_in}
 use Rattle.oas_reader.specs.Meaning.{at_of, repetition_at, is_wanted, figure_of, brush_of}
-use Rattle.oas_reader.specs.Reals.{IsFactor, IsQuarterAngle}
+use Rattle.oas_reader.specs.Reals.{IsOasisFactor, IsOasisAngle}
 
 -- ---- by rule
 
@@ -40,21 +40,21 @@ pub record ArePositionsNear (all : List OasRecord) : Type 0 where
   pub text : IsPlaceWithin (2 ^ 40) (text_of all)
 
 -- a name that is written is one
-abbrev pub IsNamed : List ℕ → Option Called → Type 0
-IsNamed bytes None = Unit {0}
-IsNamed bytes (Some (Number number)) = Unit {0}
-IsNamed bytes (Some (Text first next)) = IsName (text_in bytes (first, next))
+abbrev pub IsNameWhereWritten : List ℕ → Option Called → Type 0
+IsNameWhereWritten bytes None = Unit {0}
+IsNameWhereWritten bytes (Some (Number number)) = Unit {0}
+IsNameWhereWritten bytes (Some (Text first next)) = IsName (text_in bytes (first, next))
 
 -- what is written of a cell's name
 abbrev pub KeepsName : List ℕ → OasRecord → Type 0
 KeepsName bytes (records.Name kinds.Cell text number) = IsName (text_in bytes text)
-KeepsName bytes (records.Cell name) = IsNamed bytes (Some name)
-KeepsName bytes (records.Placement info cell turn x y repetition) = IsNamed bytes cell
+KeepsName bytes (records.Cell name) = IsNameWhereWritten bytes (Some name)
+KeepsName bytes (records.Placement info cell turn x y repetition) = IsNameWhereWritten bytes cell
 KeepsName bytes _ = Unit {0}
 
 abbrev pub TurnKeepsMagnification : Option Turn → Type 0
 TurnKeepsMagnification None = Unit {0}
-TurnKeepsMagnification (Some turn) = IsFactor turn.magnification
+TurnKeepsMagnification (Some turn) = IsOasisFactor turn.magnification
 
 abbrev pub KeepsMagnification : OasRecord → Type 0
 KeepsMagnification (records.Placement info cell turn x y repetition) = TurnKeepsMagnification turn
@@ -62,7 +62,7 @@ KeepsMagnification _ = Unit {0}
 
 abbrev pub TurnKeepsAngle : Option Turn → Type 0
 TurnKeepsAngle None = Unit {0}
-TurnKeepsAngle (Some turn) = IsQuarterAngle turn.angle
+TurnKeepsAngle (Some turn) = IsOasisAngle turn.angle
 
 abbrev pub KeepsAngle : OasRecord → Type 0
 KeepsAngle (records.Placement info cell turn x y repetition) = TurnKeepsAngle turn
@@ -103,7 +103,7 @@ PolygonKeeps (Some deltas) at rep rule = KeepsPolygon at deltas rep rule
 
 abbrev pub PathKeeps : Option Deltas → Point → Brush → Option Rep → ℕ → Type 0
 PathKeeps None at brush rep rule = Unit {0}
-PathKeeps (Some deltas) at brush rep rule = KeepsPath at brush deltas rep rule
+PathKeeps (Some deltas) at brush rep rule = KeepsOasisPath at brush deltas rep rule
 
 abbrev pub KindKeeps : ShapeHead → ShapeKind → List OasRecord → Option Rep → ℕ → Type 0
 KindKeeps head (shapes.Polygon points) all rep rule = PolygonKeeps (polygon_points_of all) (at_of all) rep rule
@@ -119,7 +119,7 @@ KeepsDrawn _ all rep rule = Unit {0}
 -- ---- all of them
 
 -- a record, after its past, keeps the rule
-pub record Keeps (bytes : List ℕ) (wanted : List Pair) (past : List OasRecord) (r : OasRecord) (rule : ℕ) : Type 0 where
+pub record KeepsOasisRule (bytes : List ℕ) (wanted : List Pair) (past : List OasRecord) (r : OasRecord) (rule : ℕ) : Type 0 where
   pub positions : rule ≡ 1 → ArePositionsNear (r ∷ past)
   pub offsets : rule ≡ 1 → KeepsOffsets past r
   pub name : rule ≡ 2 → KeepsName bytes r
@@ -131,9 +131,9 @@ pub record Keeps (bytes : List ℕ) (wanted : List Pair) (past : List OasRecord)
   pub dimension : rule ≡ 11 → HasDimensionsIn (repetition_in r)
   pub drawn : IsTrue (is_wanted wanted (r ∷ past)) → KeepsDrawn r (r ∷ past) (repetition_at past r) rule
 
-abbrev pub KeepsRules : List ℕ → List Pair → List OasRecord → OasRecord → Type 0
-KeepsRules bytes wanted past r = (rule : ℕ) → Keeps bytes wanted past r rule
+abbrev pub KeepsOasisRules : List ℕ → List Pair → List OasRecord → OasRecord → Type 0
+KeepsOasisRules bytes wanted past r = (rule : ℕ) → KeepsOasisRule bytes wanted past r rule
 
 -- the lowest rule that the record breaks
-abbrev pub IsLowestBroken : List ℕ → List Pair → List OasRecord → OasRecord → ℕ → Type 0
-IsLowestBroken bytes wanted past r rule = IsLowest (Keeps bytes wanted past r) rule
+abbrev pub IsLowestBrokenByItem : List ℕ → List Pair → List OasRecord → OasRecord → ℕ → Type 0
+IsLowestBrokenByItem bytes wanted past r rule = IsLowest (KeepsOasisRule bytes wanted past r) rule

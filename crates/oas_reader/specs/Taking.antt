@@ -16,7 +16,7 @@ use Rattle.oas_reader.specs.Meaning.{is_wanted, has_pair}
 use Rattle.oas_reader.specs.Names.{conflict_of}
 use Rattle.oas_reader.specs.Naming.{IsSpan, IsCalledWithin, AreCalledWithin}
 use Rattle.oas_reader.specs.Placed.{IsTurning}
-use Rattle.oas_reader.specs.Rules.{IsNamed, Keeps, IsLowestBroken}
+use Rattle.oas_reader.specs.Rules.{IsNameWhereWritten, KeepsOasisRule, IsLowestBrokenByItem}
 use Rattle.oas_reader.specs.Undefined.{is_there, undefined_of}
 use Rattle.layout_model.specs.Pairs.{AreSamePairs}
 use Rattle.oas_reader.specs.declared.bodies.Body.{Body}
@@ -55,19 +55,19 @@ wanting_of wanted past r = if has_pair r then Some (is_wanted wanted (r ∷ past
 -- the name that a CELLNAME or CELL record writes is one
 abbrev pub KeepsOwnName : List ℕ → OasRecord → Type 0
 KeepsOwnName bytes (records.Name kinds.Cell text number) = IsName (text_in bytes text)
-KeepsOwnName bytes (records.Cell name) = IsNamed bytes (Some name)
+KeepsOwnName bytes (records.Cell name) = IsNameWhereWritten bytes (Some name)
 KeepsOwnName bytes _ = Unit {0}
 
 -- all values that it needs are there, and it keeps all rules but that of its own name
 pub record AreValuesKept (bytes : List ℕ) (wanted : List Pair) (past : List OasRecord) (r : OasRecord) : Type 0 where
   pub defined : undefined_of past r ≡ None
-  pub rules : (rule : ℕ) → (rule ≡ 2 → KeepsOwnName bytes r) → Keeps bytes wanted past r rule
+  pub rules : (rule : ℕ) → (rule ≡ 2 → KeepsOwnName bytes r) → KeepsOasisRule bytes wanted past r rule
 
 -- a value that isn't there, or the lowest rule that is broken
 abbrev pub IsBadValue : List ℕ → List Pair → List OasRecord → ℕ → OasRecord → OasBad → Type 0
 IsBadValue bytes wanted past at r bad =
     ((variable : Variable) × (undefined_of past r ≡ Some variable) × (bad ≡ faults.Undefined at variable))
-    ⊎ ((rule : ℕ) × (undefined_of past r ≡ None) × IsLowestBroken bytes wanted past r rule × (bad ≡ faults.Value at rule))
+    ⊎ ((rule : ℕ) × (undefined_of past r ≡ None) × IsLowestBrokenByItem bytes wanted past r rule × (bad ≡ faults.Value at rule))
 
 -- ---- names
 

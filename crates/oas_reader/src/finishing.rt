@@ -4,11 +4,11 @@ ghost use Rattle.geo_stream.specs.Refusals.{IfFault};
 ghost use Rattle.layout_model.specs.Layouts.{IsPlacementOnGrid, IsCellOnGrid, AreDistinct};
 ghost use Rattle.layout_model.specs.declared.pair.Pair.{Pair as APair};
 ghost use Rattle.oas_reader.specs.Behind.{AreCellsBehind};
-ghost use Rattle.oas_reader.specs.Items.{Item, records_in, NoneEnds, is_end};
+ghost use Rattle.oas_reader.specs.Items.{Item, records_in, NoItemEnds, is_end};
 ghost use Rattle.oas_reader.specs.Finished.{cell_by, cells_by as the_cells_by, cell_items, AreTwins};
 ghost use Rattle.oas_reader.specs.Meaning.{named};
 ghost use Rattle.oas_reader.specs.Names.{name_called, first_twins};
-ghost use Rattle.oas_reader.specs.Reading.{IsFaultOf};
+ghost use Rattle.oas_reader.specs.Reading.{IsFaultOfNames};
 ghost use Rattle.oas_reader.specs.Readers.{placings_of, ArePlacingsWithin, IsPlacingOnGrid, IsDraftWithin, IsDraftOnGrid, AreDraftsWithin, AreDraftsOf};
 ghost use Rattle.oas_reader.specs.Naming.{IsCalledWithin, HaveSpans, AreNamesOf};
 
@@ -193,15 +193,15 @@ pub(crate) fn cells_of<'a>(
     requires spans { HaveSpans bytes.now names.now }
     requires within { AreDraftsWithin bytes.now drafts }
     ensures ok { (wanted : AList APair) (past : AList Item) (last : Item) → AreNamesOf bytes.now (last ∷ past) names.now
-        → AreDraftsOf wanted (last ∷ past) drafts → is_end last.r ≡ true → NoneEnds past
+        → AreDraftsOf wanted (last ∷ past) drafts → is_end last.r ≡ true → NoItemEnds past
         → IfOk result (AreCellsBehind bytes.now wanted (last ∷ past)) }
     ensures grid { IfOk result (All IsCellOnGrid) }
     ensures names { (wanted : AList APair) (past : AList Item) (last : Item) → AreNamesOf bytes.now (last ∷ past) names.now
-        → AreDraftsOf wanted (last ∷ past) drafts → is_end last.r ≡ true → NoneEnds past
+        → AreDraftsOf wanted (last ∷ past) drafts → is_end last.r ≡ true → NoItemEnds past
         → IfOk result (λ cells. AreDistinct (map (λ cell. cell.name) cells)) }
     ensures bad { (wanted : AList APair) (past : AList Item) (last : Item) → AreNamesOf bytes.now (last ∷ past) names.now
-        → AreDraftsOf wanted (last ∷ past) drafts → is_end last.r ≡ true → NoneEnds past
-        → IfFault result (IsFaultOf bytes.now (last ∷ past)) }
+        → AreDraftsOf wanted (last ∷ past) drafts → is_end last.r ≡ true → NoItemEnds past
+        → IfFault result (IsFaultOfNames bytes.now (last ∷ past)) }
 {
     match names.all_known() {
         Ok(()) => {}

@@ -9,7 +9,7 @@ ghost use Rattle.oas_reader.specs.Items.{Item, records_in, text_in};
 ghost use Rattle.oas_reader.specs.Names.{conflict_of, name_called as the_name_called, first_unknown, first_named, cell_name, cell_called, is_none};
 ghost use Rattle.oas_reader.specs.Naming.{IsSpan, IsCalledWithin, AreCalledWithin, IsNoName, cell_name_record, cell_record, IsConflict, conflict_in, given_in, first_marked, HaveSpans, Calls, Mentions, AreNamesOf, AreCellsOf, IsTwin};
 ghost use Rattle.oas_reader.specs.Reading.{item};
-ghost use Rattle.oas_reader.specs.Rules.{IsNamed};
+ghost use Rattle.oas_reader.specs.Rules.{IsNameWhereWritten};
 ghost use Rattle.indexmap.specs.IndexMap.{hasher_of};
 ghost use Rattle.keyed_hash.specs.Keys.{hasher_after, start_of};
 
@@ -85,9 +85,9 @@ pub(crate) fn look_at_called(
     at: usize,
 ) -> Result<(), Refusal<OasBad>>
     requires { AreCalledWithin bytes.now called }
-    ensures ok { OnOk result (IsNamed bytes.now called) }
-    ensures bad { IfFault result (λ bad. (IsNamed bytes.now called → ⊥) × (bad ≡ bads.Value at 2)) }
-    ensures no_name { (IsNamed bytes.now called → ⊥) → result ≡ Err (Fault (bads.Value at 2)) }
+    ensures ok { OnOk result (IsNameWhereWritten bytes.now called) }
+    ensures bad { IfFault result (λ bad. (IsNameWhereWritten bytes.now called → ⊥) × (bad ≡ bads.Value at 2)) }
+    ensures no_name { (IsNameWhereWritten bytes.now called → ⊥) → result ≡ Err (Fault (bads.Value at 2)) }
 {
     match called {
         Some(Called::Text(first, next)) => look_at_name(alloc, bytes, first, next, at),

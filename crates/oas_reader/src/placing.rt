@@ -13,7 +13,7 @@ ghost use Rattle.oas_reader.specs.Naming.{AreCalledWithin};
 ghost use Rattle.oas_reader.specs.Placed.{KeepsPlaced, KeepsOffsetsIn, KeepsTurned, IsBadTurning, IsTurning, magnification_in, angle_in, orient_in, placed_by};
 ghost use Rattle.oas_reader.specs.Readers.{placing_of as the_placing_of, IsPlacingOnGrid};
 ghost use Rattle.oas_reader.specs.Meaning.{point_at};
-ghost use Rattle.oas_reader.specs.Reals.{IsFactor, IsQuarterAngle, factor_of as the_factor_of, turns_of as the_turns_of};
+ghost use Rattle.oas_reader.specs.Reals.{IsOasisFactor, IsOasisAngle, factor_of as the_factor_of, turns_of as the_turns_of};
 
 use crate::bodies::{Outline, Turning};
 use crate::naming::look_at_called;
@@ -47,9 +47,9 @@ pub(crate) struct Placing {
 
 // A magnification from 1 to 16.
 fn factor_of(magnification: Option<Real>) -> Option<u8>
-    ensures some { IfSome result (λ factor. IsFactor magnification × (factor ≡ the_factor_of magnification)) }
+    ensures some { IfSome result (λ factor. IsOasisFactor magnification × (factor ≡ the_factor_of magnification)) }
     ensures bounds { IfSome result (λ factor. (1 ≤ factor) × (factor ≤ 16)) }
-    ensures none { IfNone result (IsFactor magnification → ⊥) }
+    ensures none { IfNone result (IsOasisFactor magnification → ⊥) }
 {
     let Some(real) = magnification else {
         return Some(1);
@@ -62,9 +62,9 @@ fn factor_of(magnification: Option<Real>) -> Option<u8>
 
 // The quarter turns of an angle that is a multiple of 90 degrees from -360 to 360.
 fn turns_of(angle: Option<Real>) -> Option<u8>
-    ensures some { IfSome result (λ turns. IsQuarterAngle angle × (turns ≡ the_turns_of angle)) }
+    ensures some { IfSome result (λ turns. IsOasisAngle angle × (turns ≡ the_turns_of angle)) }
     ensures few { IfSome result (λ turns. turns < 4) }
-    ensures none { IfNone result (IsQuarterAngle angle → ⊥) }
+    ensures none { IfNone result (IsOasisAngle angle → ⊥) }
 {
     let Some(real) = angle else {
         return Some(0);
@@ -80,7 +80,7 @@ fn orient_of(flips: bool, turning: Turning, at: usize) -> Result<Orient, OasBad>
     requires { IsTurning turning }
     ensures value { IfOk result (λ orient. orient ≡ orient_in flips turning) }
     ensures grid { IfOk result IsOrient }
-    ensures kept { IfOk result (λ _. IsFactor (magnification_in turning) × IsQuarterAngle (angle_in turning)) }
+    ensures kept { IfOk result (λ _. IsOasisFactor (magnification_in turning) × IsOasisAngle (angle_in turning)) }
     ensures broken { IfErr result (IsBadTurning turning at) }
 {
     match turning {

@@ -5,7 +5,7 @@ ghost use Rattle.geo_stream.specs.declared.refusal.Refusal.TheVariants.{Fault, N
 ghost use Rattle.layout_model.specs.Layouts.{IsLayoutOnGrid};
 ghost use Rattle.layout_model.specs.declared.cells.Layout.{Layout as ALayout};
 ghost use Rattle.layout_model.specs.declared.pair.Pair.{Pair as APair};
-ghost use Rattle.oas_lex.specs.Reals.{IsWholeReal};
+ghost use Rattle.oas_lex.specs.Reals.{IsWholeOasisReal};
 ghost use Rattle.oas_record.specs.Plain.{rectangle_of};
 ghost use Rattle.oas_record.specs.Taken.{repetition_in};
 ghost use Rattle.oas_record.specs.declared.records.OasRecord.{OasRecord as ARecord};
@@ -15,13 +15,13 @@ ghost use Rattle.oas_reader.specs.Bodies.{body_of};
 ghost use Rattle.layout_model.specs.Pairs.{AreSorted, AreSamePairs};
 ghost use Rattle.layout_model.specs.Counting.{AreAtMost};
 ghost use Rattle.oas_reader.specs.Files.{KeepsFile, BreaksFile, lexical_refusal, tables_by, HaveRecords, IsBodyKept, IsBadBody, IsLayoutBehind};
-ghost use Rattle.oas_reader.specs.Items.{Item, records_in, magic, is_end, NoneEnds};
+ghost use Rattle.oas_reader.specs.Items.{Item, records_in, magic, is_end, NoItemEnds};
 ghost use Rattle.oas_reader.specs.Meaning.{counts_of};
 ghost use Rattle.oas_reader.specs.Naming.{AreCalledWithin, HaveSpans, AreNamesOf};
 ghost use Rattle.oas_reader.specs.Order.{is_in_order};
 ghost use Rattle.oas_reader.specs.Plain.{plain};
 ghost use Rattle.oas_reader.specs.Readers.{AreDraftsOf, AreDraftsWithin, IsReaderOf, IsReaderWithin};
-ghost use Rattle.oas_reader.specs.Reading.{item, IsAllowed, IsRefused, IsLayoutOf, IsFaultOf, IsFirstFault};
+ghost use Rattle.oas_reader.specs.Reading.{item, IsItemAllowed, IsRefused, IsOasisLayoutOf, IsFaultOfNames, IsFirstOasisFault};
 ghost use Rattle.oas_reader.specs.Taking.{IsBodyWithin, IsTaken};
 ghost use Rattle.oas_reader.specs.Undefined.{is_there};
 ghost use Rattle.oas_reader.specs.declared.bodies.Body.TheVariants as bodies;
@@ -100,7 +100,7 @@ fn outline_of(current: &OasRecord<'_>) -> Outline
 
 // Whether START has this unit.
 fn has_unit(real: Real, unit: u32) -> bool
-    ensures { IsTrue result ↔ IsWholeReal real (pos unit) }
+    ensures { IsTrue result ↔ IsWholeOasisReal real (pos unit) }
 {
     match real_whole(real) {
         Some(whole) => whole == i64::from(unit),
@@ -321,7 +321,7 @@ impl<'a> Reader<'a> {
             → OnOk result (is_in_order (records_in past) current.entry ≡ true) }
         ensures allowed { (wanted : AList APair) (past : AList Item) → AreSamePairs wanted sorted.now → IsReaderOf bytes.now wanted past self.old
             → HasDimensionsIn (repetition_of (records_in past))
-            → OnOk result (IsAllowed bytes.now unit wanted past at current.entry next) }
+            → OnOk result (IsItemAllowed bytes.now unit wanted past at current.entry next) }
         ensures refused { (wanted : AList APair) (past : AList Item) → AreSamePairs wanted sorted.now → IsReaderOf bytes.now wanted past self.old
             → HasDimensionsIn (repetition_of (records_in past))
             → IfFault result (IsRefused bytes.now unit wanted past at current.entry next) }
@@ -367,7 +367,7 @@ impl<'a> Reader<'a> {
             → OnOk result (is_in_order (records_in past) (rectangle_of current.now) ≡ true) }
         ensures allowed { (unit next : ℕ) (wanted : AList APair) (past : AList Item) → AreSamePairs wanted sorted.now
             → IsReaderOf bytes.now wanted past self.old → HasDimensionsIn (repetition_of (records_in past))
-            → OnOk result (IsAllowed bytes.now unit wanted past at (rectangle_of current.now) next) }
+            → OnOk result (IsItemAllowed bytes.now unit wanted past at (rectangle_of current.now) next) }
         ensures refused { (unit next : ℕ) (wanted : AList APair) (past : AList Item) → AreSamePairs wanted sorted.now
             → IsReaderOf bytes.now wanted past self.old → HasDimensionsIn (repetition_of (records_in past))
             → IfFault result (IsRefused bytes.now unit wanted past at (rectangle_of current.now) next) }
@@ -390,11 +390,11 @@ fn finish<'a>(alloc: Global, bytes: &'a [u8], reader: Reader<'a>) -> Result<Layo
     requires spans { HaveSpans bytes.now reader.names }
     requires within { AreDraftsWithin bytes.now reader.drafts }
     ensures ok { (wanted : AList APair) (past : AList Item) (last : Item) → IsReaderOf bytes.now wanted (last ∷ past) reader.entry
-        → is_end last.r ≡ true → NoneEnds past → IfOk result (IsLayoutBehind bytes.now wanted (last ∷ past)) }
+        → is_end last.r ≡ true → NoItemEnds past → IfOk result (IsLayoutBehind bytes.now wanted (last ∷ past)) }
     ensures grid { (wanted : AList APair) (past : AList Item) (last : Item) → IsReaderOf bytes.now wanted (last ∷ past) reader.entry
-        → is_end last.r ≡ true → NoneEnds past → IfOk result IsLayoutOnGrid }
+        → is_end last.r ≡ true → NoItemEnds past → IfOk result IsLayoutOnGrid }
     ensures bad { (wanted : AList APair) (past : AList Item) (last : Item) → IsReaderOf bytes.now wanted (last ∷ past) reader.entry
-        → is_end last.r ≡ true → NoneEnds past → IfFault result (IsFaultOf bytes.now (last ∷ past)) }
+        → is_end last.r ≡ true → NoItemEnds past → IfFault result (IsFaultOfNames bytes.now (last ∷ past)) }
 {
     let Reader {
         names,
@@ -424,9 +424,9 @@ fn read_records(
 ) -> Result<Layout, Refusal<OasBad>>
     requires begins { the_take 13 bytes.now ≡ magic }
     requires sorted { AreSorted sorted.now }
-    ensures found { (wanted : AList APair) → AreSamePairs wanted sorted.now → IfOk result (λ layout. IsLayoutOf bytes.now unit wanted layout) }
+    ensures found { (wanted : AList APair) → AreSamePairs wanted sorted.now → IfOk result (λ layout. IsOasisLayoutOf bytes.now unit wanted layout) }
     ensures grid { IfOk result IsLayoutOnGrid }
-    ensures first_fault { (wanted : AList APair) → AreSamePairs wanted sorted.now → IfFault result (IsFirstFault bytes.now unit wanted) }
+    ensures first_fault { (wanted : AList APair) → AreSamePairs wanted sorted.now → IfFault result (IsFirstOasisFault bytes.now unit wanted) }
 {
     let mut reader = Reader::new(alloc, bytes);
     let mut at = MAGIC.len();
@@ -466,11 +466,11 @@ pub fn read_oas(
     unit: u32,
     wanted: &[Pair],
 ) -> Result<Layout, Refusal<OasBad>>
-    ensures found { IfOk result (λ layout. IsLayoutOf bytes.now unit wanted.now layout) }
+    ensures found { IfOk result (λ layout. IsOasisLayoutOf bytes.now unit wanted.now layout) }
     ensures grid { IfOk result IsLayoutOnGrid }
-    ensures read { (layout : ALayout) → IsLayoutOf bytes.now unit wanted.now layout → (result ≡ Ok layout) ⊎ (result ≡ Err NoMemory) }
-    ensures first_fault { IfFault result (IsFirstFault bytes.now unit wanted.now) }
-    ensures every_fault { (bad : ABad) → IsFirstFault bytes.now unit wanted.now bad → (result ≡ Err (Fault bad)) ⊎ (result ≡ Err NoMemory) }
+    ensures read { (layout : ALayout) → IsOasisLayoutOf bytes.now unit wanted.now layout → (result ≡ Ok layout) ⊎ (result ≡ Err NoMemory) }
+    ensures first_fault { IfFault result (IsFirstOasisFault bytes.now unit wanted.now) }
+    ensures every_fault { (bad : ABad) → IsFirstOasisFault bytes.now unit wanted.now bad → (result ≡ Err (Fault bad)) ⊎ (result ≡ Err NoMemory) }
 {
     if !bytes.starts_with(MAGIC) {
         return Err(Refusal::Fault(OasBad::Magic));

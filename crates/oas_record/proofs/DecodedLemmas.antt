@@ -5,7 +5,7 @@ use Rattle.std.proofs.lemmas.Bool.{lt-ltb, le-ltb}
 use Rattle.std.proofs.lemmas.List.{length-take-le, length-drop}
 use Rattle.half_grid.specs.declared.plane.Point.{Point}
 use Rattle.oas_lex.specs.Deltas.{move, sideways, towards}
-use Rattle.oas_lex.specs.Numbers.{signed_value, value_of, IsWhole, HasUnsigned, HasSigned}
+use Rattle.oas_lex.specs.Numbers.{signed_value, value_of, IsWholeNumber, HasUnsigned, HasSigned}
 use Rattle.oas_lex.proofs.ForCallers.{whole_some}
 use Rattle.oas_record.specs.Decoded.{width, number_in, after_number, numbers_from, g_delta, delta_in, after_delta, deltas_from, AreNumbers, AreDeltas}
 use Rattle.oas_record.specs.Faults.{NoNumber}
@@ -17,7 +17,7 @@ use Rattle.oas_record.proofs.Readers.{numbers1, delta1}
 
 -- ---- one number
 
-width_is : (xs : List ℕ) (k : ℕ) → IsWhole (take k xs) → k ≤ length xs → width xs ≡ k
+width_is : (xs : List ℕ) (k : ℕ) → IsWholeNumber (take k xs) → k ≤ length xs → width xs ≡ k
 width_is xs zero h small = absurd h
 width_is [] (suc k) h small = absurd h
 width_is (byte ∷ rest) (suc k) (inl h) small =
@@ -26,12 +26,12 @@ width_is (byte ∷ rest) (suc k) (inl h) small =
     rw (lt-ltb byte 128 h.0) (omega (arith, none, size))
 width_is (byte ∷ rest) (suc k) (inr h) small = rw (le-ltb byte 128 h.0) (ap suc (width_is rest k h.1 (omega (arith, small))))
 
-first_is : (bytes : List ℕ) (at next : ℕ) → next ≤ length bytes → IsWhole (slice_range bytes at next) → width (drop at bytes) ≡ next - at
+first_is : (bytes : List ℕ) (at next : ℕ) → next ≤ length bytes → IsWholeNumber (slice_range bytes at next) → width (drop at bytes) ≡ next - at
 first_is bytes at next within whole =
     let size = length-drop at bytes in
     width_is (drop at bytes) (next - at) whole (omega (arith, size, within))
 
-after_is : (bytes : List ℕ) (at next : ℕ) → next ≤ length bytes → IsWhole (slice_range bytes at next) → after_number bytes at ≡ next
+after_is : (bytes : List ℕ) (at next : ℕ) → next ≤ length bytes → IsWholeNumber (slice_range bytes at next) → after_number bytes at ≡ next
 after_is bytes at next within whole =
     let size = first_is bytes at next within whole in
     let some = whole_some (drop at bytes) (next - at) whole in

@@ -4,7 +4,7 @@ use Rattle.std.proofs.Common.{slice_index, drop, Option, Some, None, inl, inr, a
 use Rattle.half_grid.specs.declared.plane.Point.{Point}
 use Rattle.oas_lex.specs.Deltas.{HasDeltaG}
 use Rattle.oas_lex.specs.Numbers.{HasUnsigned, HasSigned}
-use Rattle.oas_lex.specs.Reals.{RealForm, OneNumber, TwoNumbers, FourBytes as FourRealBytes, EightBytes, form_of, HasParts, HasReal}
+use Rattle.oas_lex.specs.Reals.{RealForm, OneNumber, TwoNumbers, FourBytes as FourRealBytes, EightBytes, form_of, HasRealParts, HasReal}
 use Rattle.oas_lex.specs.Strings.{HasText}
 use Rattle.oas_lex.specs.declared.reals.Real.{Real}
 use Rattle.oas_lex.proofs.ForCallers.{whole_some}
@@ -15,7 +15,7 @@ use Rattle.oas_record.specs.Repetitions as RepRows
 use Rattle.oas_record.specs.Repetitions.{RepRow, row_at, rep_rows, dims_of, numbers_of, deltas_of, HasRep}
 use Rattle.oas_record.specs.Rows.{Form, Number, Signed, Text, OneReal, NameBy, Range, PolygonPoints, PathPoints}
 use Rattle.oas_record.specs.Rows.{Repetition, TrapezoidType, Extension, Switch, Count, Tables, FourBytes, Values, Field}
-use Rattle.oas_record.specs.Rows.{HasName, HasForm, HasWhere, HasFields, is_set, is_written, switches_after, Part, Row}
+use Rattle.oas_record.specs.Rows.{HasName, HasForm, HasWhere, HasFields, is_set, is_written, switches_after, Part, RecordRow}
 use Rattle.oas_record.specs.Rows.{Info, NoInfo, Below, Square}
 use Rattle.oas_record.specs.Values.{bounds, HasBounds, HasInterval, ValueForm, OneReal as RealValue, OneUnsigned}
 use Rattle.oas_record.specs.Values.{OneSigned, OneString, value_form, EndsValueOf, EndsValues}
@@ -26,7 +26,7 @@ use Rattle.oas_record.specs.declared.fields.Interval.{Interval}
 use Rattle.oas_record.specs.declared.records.OasRecord.{OasRecord}
 use Rattle.oas_record.specs.declared.repetition.Rep.{Rep}
 
-parts_within : (form : Option RealForm) (bytes : List ℕ) (at a b next : ℕ) → HasParts form bytes at a b next → next ≤ length bytes
+parts_within : (form : Option RealForm) (bytes : List ℕ) (at a b next : ℕ) → HasRealParts form bytes at a b next → next ≤ length bytes
 parts_within (Some OneNumber) bytes at a b next h = h.spells.within
 parts_within (Some TwoNumbers) bytes at a b next h = h.2.within
 parts_within (Some FourRealBytes) bytes at a b next h = h.there.within
@@ -51,7 +51,7 @@ signed_on bytes at z next h = omega (arith, whole_some (drop at bytes) (next - a
 text_on : (bytes : List ℕ) (at first next : ℕ) → HasText bytes at first next → at ≤ next
 text_on bytes at first next h = omega (arith, number_on bytes at h.0 first h.1, h.2.ends)
 
-parts_on : (form : Option RealForm) (bytes : List ℕ) (at a b next : ℕ) → HasParts form bytes at a b next → at ≤ next
+parts_on : (form : Option RealForm) (bytes : List ℕ) (at a b next : ℕ) → HasRealParts form bytes at a b next → at ≤ next
 parts_on (Some OneNumber) bytes at a b next h = number_on bytes at a next h.spells
 parts_on (Some TwoNumbers) bytes at a b next h = omega (arith, number_on bytes at a h.0 h.1, number_on bytes h.0 b next h.2)
 parts_on (Some FourRealBytes) bytes at a b next h = omega (arith, h.there.ends)
@@ -90,7 +90,7 @@ points_on is_polygon bytes at d next h = omega (
       (at + 1) d.items next h.rest,
 )
 
-row_on : (r : Option RepRow) (bytes : List ℕ) (at : ℕ) (d n : List ℕ) (p : List Point) (next : ℕ) → RepRows.HasRow r bytes at d n p next → at ≤ next
+row_on : (r : Option RepRow) (bytes : List ℕ) (at : ℕ) (d n : List ℕ) (p : List Point) (next : ℕ) → RepRows.HasRepetitionRow r bytes at d n p next → at ≤ next
 row_on (Some r) bytes at d n p next h = omega (
   arith,
   numbers_on bytes at h.0 h.1 h.3.stands_dims,
@@ -155,14 +155,14 @@ fields_on (p ∷ ps) s bytes at [] next h = absurd h
 fields_on (p ∷ ps) s bytes at (f ∷ fs) next h =
     omega (arith, where_on (is_written p.guard s) p.form s bytes at f h.0 h.1, fields_on ps (switches_after p.form f s) bytes h.0 fs next h.2)
 
-body_on : (info : Info) (row : Row) (tables : Bool) (bytes : List ℕ) (at i : ℕ) (fs : List Field) (next : ℕ)
+body_on : (info : Info) (row : RecordRow) (tables : Bool) (bytes : List ℕ) (at i : ℕ) (fs : List Field) (next : ℕ)
     → HasBody info row tables bytes at i fs next → at ≤ next
 body_on NoInfo row tables bytes at i fs next h = fields_on row.parts (switch_of tables) bytes at fs next h.1
 body_on (Below n) row tables bytes at i fs next h = omega (arith, fields_on row.parts i bytes (at + 1) fs next h.fields_stand)
 body_on Square row tables bytes at i fs next h = omega (arith, fields_on row.parts i bytes (at + 1) fs next h.fields_stand)
 
-of_row_on : (r : Option Row) (tables : Bool) (bytes : List ℕ) (at i : ℕ) (fs : List Field) (next : ℕ)
-    → RecordRows.HasRow r tables bytes at i fs next → at ≤ next
+of_row_on : (r : Option RecordRow) (tables : Bool) (bytes : List ℕ) (at i : ℕ) (fs : List Field) (next : ℕ)
+    → RecordRows.HasRecordRow r tables bytes at i fs next → at ≤ next
 of_row_on (Some r) tables bytes at i fs next h = body_on r.info r tables bytes at i fs next h
 of_row_on None tables bytes at i fs next h = absurd h
 

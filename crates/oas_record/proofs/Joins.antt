@@ -3,7 +3,7 @@ use Rattle.std.proofs.Common.{◌≡◌, ◌⊎◌, ◌<◌, ◌+◌, ℕ, IsTru
 use Rattle.oas_record.specs.Faults.{NoBytes}
 use Rattle.oas_record.specs.Parts.{NoInfoByte}
 use Rattle.oas_record.specs.Records.{InfoFails}
-use Rattle.oas_record.specs.Rows.{Row, allows, Part, Field, HasFields, NoFields, switches_after}
+use Rattle.oas_record.specs.Rows.{RecordRow, allows, Part, Field, HasFields, NoFields, switches_after}
 use Rattle.oas_record.specs.Shapes.{through}
 use Rattle.oas_record.specs.declared.faults.RecordBad.{RecordBad}
 
@@ -32,12 +32,12 @@ fails_then (p ∷ ps) qs s t bytes at (f ∷ fs) mid bad same h k =
 
 -- ---- the info byte before the fields
 
-pub info_refused : (row : Row) (bytes : List ℕ) (at : ℕ) (bad : RecordBad) → NoInfoByte row.info bytes at bad
+pub info_refused : (row : RecordRow) (bytes : List ℕ) (at : ℕ) (bad : RecordBad) → NoInfoByte row.info bytes at bad
     → NoBytes bytes at 1 bad ⊎ InfoFails row bytes at bad
 info_refused row bytes at bad (inl short) = inl short
 info_refused row bytes at bad (inr h) = inr (record { within = h.0; fails = inl (h.1, h.2) })
 
-pub fields_refused : (row : Row) (bytes : List ℕ) (at info : ℕ) (bad : RecordBad) → at < length bytes
+pub fields_refused : (row : RecordRow) (bytes : List ℕ) (at info : ℕ) (bad : RecordBad) → at < length bytes
     → info ≡ slice_index bytes at → IsTrue (allows row.info info)
     → NoFields row.parts info bytes (at + 1) bad → NoBytes bytes at 1 bad ⊎ InfoFails row bytes at bad
 fields_refused row bytes at info bad within byte allowed f = inr (record {

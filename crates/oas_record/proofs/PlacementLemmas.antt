@@ -2,8 +2,8 @@
 use Rattle.std.proofs.Common.{◌≡◌, ◌⊎◌, ◌<◌, ◌+◌, ℕ, ℤ, Bool, true, false, IsTrue, Option, List, ◌∷◌, ◌++◌, length, slice_index}
 use Rattle.oas_record.specs.Faults.{NoBytes}
 use Rattle.oas_record.specs.Parts.{IsOf, NotOf, NoInfoByte, turned_id, turn_parts}
-use Rattle.oas_record.specs.Records.{called_or, place_of, placement_id, turn_fields, row_at, HasInfo, HasRow, InfoFails}
-use Rattle.oas_record.specs.Rows.{Field, NameBy, Bit, Below, Row, allows, when, placed, is_set, HasWhere, HasFields, NoFields}
+use Rattle.oas_record.specs.Records.{called_or, place_of, placement_id, turn_fields, row_at, HasInfo, HasRecordRow, InfoFails}
+use Rattle.oas_record.specs.Rows.{Field, NameBy, Bit, Below, RecordRow, allows, when, placed, is_set, HasWhere, HasFields, NoFields}
 use Rattle.oas_record.specs.Shapes.{through}
 use Rattle.oas_record.specs.declared.faults.RecordBad.{RecordBad}
 use Rattle.oas_record.specs.declared.fields.Called.{Called}
@@ -12,11 +12,11 @@ use Rattle.oas_record.specs.declared.records.Turn.{Turn}
 use Rattle.oas_record.specs.declared.repetition.Rep.{Rep}
 use Rattle.oas_record.proofs.Joins.{joined, info_refused, fields_refused}
 
-abbrev placement_row : Bool → Row
+abbrev placement_row : Bool → RecordRow
 placement_row is_turned = record { info = Below 256; parts = when (Bit 7) (NameBy 6) ∷ (turn_parts is_turned ++ placed) }
 
 row_there : (is_turned : Bool) (bytes : List ℕ) (at info : ℕ) (fields : List Field) (next : ℕ)
-    → HasInfo (placement_row is_turned) bytes at info fields next → HasRow (row_at (turned_id is_turned)) false bytes at info fields next
+    → HasInfo (placement_row is_turned) bytes at info fields next → HasRecordRow (row_at (turned_id is_turned)) false bytes at info fields next
 row_there false bytes at info fields next h = h
 row_there true bytes at info fields next h = h
 

@@ -5,7 +5,7 @@ use Rattle.oas_record.specs.Rows.{rows, NoFields, when, Zero, Tables, with_switc
 use Rattle.std.proofs.lemmas.List.{get_or_past}
 use Rattle.std.proofs.lemmas.Bool.Decides.{nat_tests}
 use Rattle.oas_record.specs.Parts.{IsOf, NotOf}
-use Rattle.oas_record.specs.Records.{HasRecord, NoRecord, HasRow, NoRow, row_at, info_of, fields_of, switch_of}
+use Rattle.oas_record.specs.Records.{HasRecord, NoRecord, HasRecordRow, NoRow, row_at, info_of, fields_of, switch_of}
 use Rattle.oas_record.specs.declared.faults.RecordBad.{RecordBad}
 use Rattle.oas_record.specs.declared.faults.RecordBad.TheVariants as faults
 use Rattle.oas_record.specs.declared.records.OasRecord.{OasRecord}
@@ -15,7 +15,7 @@ pub record_there : (bytes : List ℕ) (at id : ℕ) (tables : Bool) (r : OasReco
 record_there bytes at id tables r next within is h = record {
   within = within;
   id = h.id_is ∙ is;
-  row = subst (λ k. HasRow (row_at k) tables bytes (at + 1) (info_of r) (fields_of r) next) is h.row;
+  row = subst (λ k. HasRecordRow (row_at k) tables bytes (at + 1) (info_of r) (fields_of r) next) is h.row;
 }
 
 pub record_missing : (bytes : List ℕ) (at id : ℕ) (tables : Bool) (bad : RecordBad) → at < length bytes → id ≡ slice_index bytes at

@@ -6,8 +6,8 @@ use Rattle.std.proofs.lemmas.List.{append_cancel_left}
 use Rattle.std.specs.Result.{IfOk, IfErr}
 use Rattle.oas_lex.proofs.ForCallers.{IsReader, pair_is}
 use Rattle.oas_record.specs.Faults.{NoBytes}
-use Rattle.oas_record.specs.Records.{id_of, info_of, fields_of, row_at, switch_of, HasInfo, HasBody, HasRow, HasRecord, InfoFails, NoBody, NoRow, NoRecord}
-use Rattle.oas_record.specs.Rows.{Field, Info, NoInfo, Below, Square, allows, Row, HasFields, NoFields}
+use Rattle.oas_record.specs.Records.{id_of, info_of, fields_of, row_at, switch_of, HasInfo, HasBody, HasRecordRow, HasRecord, InfoFails, NoBody, NoRow, NoRecord}
+use Rattle.oas_record.specs.Rows.{Field, Info, NoInfo, Below, Square, allows, RecordRow, HasFields, NoFields}
 use Rattle.oas_record.specs.declared.faults.RecordBad.{RecordBad}
 use Rattle.oas_record.specs.declared.faults.RecordBad.TheVariants as faults
 use Rattle.oas_record.specs.declared.records.OasRecord.{OasRecord}
@@ -19,7 +19,7 @@ use Rattle.oas_record.proofs.SameRecords.{same_record}
 abbrev Body : Type 0
 Body = (ℕ × List Field) × ℕ
 
-after_info : (row : Row) (bytes : List ℕ) (at : ℕ)
+after_info : (row : RecordRow) (bytes : List ℕ) (at : ℕ)
     → IsReader (λ (v : Body). (v.0.0 ≡ slice_index bytes at)
     × (IsTrue (allows row.info (slice_index bytes at)) × HasFields row.parts (slice_index bytes at) bytes
     (at + 1) v.0.1 v.1))
@@ -51,7 +51,7 @@ after_info row bytes at =
     allowed_not : (b : Bool) → IsTrue b → b ≡ false → ⊥
     allowed_not b t f = cc
 
-with_info : (row : Row) (bytes : List ℕ) (at : ℕ) → IsReader (λ (v : Body). HasInfo row bytes at v.0.0 v.0.1 v.1)
+with_info : (row : RecordRow) (bytes : List ℕ) (at : ℕ) → IsReader (λ (v : Body). HasInfo row bytes at v.0.0 v.0.1 v.1)
     (λ e. NoBytes bytes at 1 e ⊎ InfoFails row bytes at e)
 with_info row bytes at =
     weaker _ _ _ _ (kinded bytes at _ _ (after_info row bytes at))
@@ -68,7 +68,7 @@ with_info row bytes at =
     ))
     (λ e f. elim f [ inl short ↦ inl short | inr bad ↦ inr (bad.within, bad.fails) ])
 
-body : (info : Info) (row : Row) (tables : Bool) (bytes : List ℕ) (at : ℕ)
+body : (info : Info) (row : RecordRow) (tables : Bool) (bytes : List ℕ) (at : ℕ)
     → IsReader (λ (v : Body). HasBody info row tables bytes at v.0.0 v.0.1 v.1) (NoBody info row tables bytes at)
 body NoInfo row tables bytes at =
     let rest = fields row.parts (switch_of tables) bytes at in
@@ -82,8 +82,8 @@ body NoInfo row tables bytes at =
 body (Below n) row tables bytes at = with_info row bytes at
 body Square row tables bytes at = with_info row bytes at
 
-row : (r : Option Row) (id : ℕ) (tables : Bool) (bytes : List ℕ) (at : ℕ)
-    → IsReader (λ (v : Body). HasRow r tables bytes at v.0.0 v.0.1 v.1) (NoRow r id tables bytes at)
+row : (r : Option RecordRow) (id : ℕ) (tables : Bool) (bytes : List ℕ) (at : ℕ)
+    → IsReader (λ (v : Body). HasRecordRow r tables bytes at v.0.0 v.0.1 v.1) (NoRow r id tables bytes at)
 row (Some r) id tables bytes at = body r.info r tables bytes at
 row None id tables bytes at = nothing (if nat_lt id 35 then faults.Packed else faults.Kind)
 
@@ -92,7 +92,7 @@ one_record bytes at tables =
     let id = slice_index bytes at in
     let rest = row (row_at id) id tables bytes (at + 1) in
     let whole = kinded bytes at
-    (λ (v : OasRecord × ℕ). (id_of v.0 ≡ id) × HasRow (row_at id) tables bytes (at + 1) (info_of v.0)
+    (λ (v : OasRecord × ℕ). (id_of v.0 ≡ id) × HasRecordRow (row_at id) tables bytes (at + 1) (info_of v.0)
     (fields_of v.0) v.1) (NoRow (row_at id) id tables bytes (at + 1)) (record {
       one = λ v w h k.
           let same = rest.one ((info_of v.0, fields_of v.0), v.1) ((info_of w.0, fields_of w.0), w.1) h.1 k.1 in

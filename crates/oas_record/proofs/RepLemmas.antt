@@ -2,7 +2,7 @@
 use Rattle.std.proofs.Common.{◌≡◌, ℕ, suc, ◌+◌, List, [], ◌∷◌, map, Some, inr, refl, ap, arith}
 use Rattle.oas_lex.specs.Numbers.{HasUnsigned}
 use Rattle.oas_record.specs.Lists.{HasNumbers}
-use Rattle.oas_record.specs.Repetitions.{RepRow, AfterDims, RowFails}
+use Rattle.oas_record.specs.Repetitions.{RepRow, AfterDims, RepetitionRowFails}
 use Rattle.oas_record.specs.declared.faults.RecordBad.{RecordBad}
 
 pub one : (bytes : List ℕ) (at n next : ℕ) → HasUnsigned bytes at n next → HasNumbers bytes at (n ∷ []) next
@@ -19,13 +19,13 @@ dims d s e t h k = rw (h, k) refl
 
 -- what follows one dimension fails
 pub fails_after : (r : RepRow) (bytes : List ℕ) (at s a : ℕ) (bad : RecordBad) → 1 ≡ r.dims → HasUnsigned bytes at s a
-    → AfterDims r (s ∷ []) bytes a bad → RowFails (Some r) bytes at bad
+    → AfterDims r (s ∷ []) bytes a bad → RepetitionRowFails (Some r) bytes at bad
 fails_after r bytes at s a bad size h f = inr (s ∷ [], a, (size, one bytes at s a h), f)
 
 -- what follows two dimensions fails
 pub fails_after_two : (r : RepRow) (bytes : List ℕ) (at s mid t a : ℕ) (bad : RecordBad) → 2 ≡ r.dims
     → HasUnsigned bytes at s mid → HasUnsigned bytes mid t a → AfterDims r (s ∷ t ∷ []) bytes a bad
-    → RowFails (Some r) bytes at bad
+    → RepetitionRowFails (Some r) bytes at bad
 fails_after_two r bytes at s mid t a bad size h k f = inr (s ∷ t ∷ [], a, (size, two bytes at s mid t a h k), f)
 
 -- one fewer than a dimension is one more than what is stored of it

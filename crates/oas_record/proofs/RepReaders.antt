@@ -8,7 +8,7 @@ use Rattle.oas_lex.specs.Strings.{HasText}
 use Rattle.oas_lex.proofs.ForCallers.{IsReader, pair_is, after}
 use Rattle.oas_record.specs.Faults.{NoNumber, NoText, NoReal}
 use Rattle.oas_record.specs.Lists.{NoNumbers, NoDeltas}
-use Rattle.oas_record.specs.Repetitions.{RepRow, amount, rep_rows, row_at, kind_of, dims_of, numbers_of, deltas_of, HasRow, HasRep, AfterDims, RowFails, NoRep}
+use Rattle.oas_record.specs.Repetitions.{RepRow, amount, rep_rows, row_at, kind_of, dims_of, numbers_of, deltas_of, HasRepetitionRow, HasRep, AfterDims, RepetitionRowFails, NoRep}
 use Rattle.oas_record.specs.Values.{bounds, HasBounds, HasInterval, NoBounds, NoInterval, HasTables, value_form}
 use Rattle.oas_record.specs.Values.{ValueForm, OneReal, OneUnsigned, OneSigned, OneString, EndsValueOf, EndsValue}
 use Rattle.oas_record.specs.Values.{EndsValues, NoValueOf, NoValue, NoValues}
@@ -41,7 +41,7 @@ after_numbers r bytes stored ns b =
       cause = last.cause;
     }
 
-row_of : (row : Option RepRow) (bytes : List ℕ) (at : ℕ) → IsReader (λ (v : Lists × ℕ). HasRow row bytes at v.0.0.0 v.0.0.1 v.0.1 v.1) (RowFails row bytes at)
+row_of : (row : Option RepRow) (bytes : List ℕ) (at : ℕ) → IsReader (λ (v : Lists × ℕ). HasRepetitionRow row bytes at v.0.0.0 v.0.0.1 v.0.1 v.1) (RepetitionRowFails row bytes at)
 row_of (Some r) bytes at = weaker _ _ _ _
     (after (λ stored a. Numbers r.dims bytes at stored a) (NoNumbers r.dims bytes at)
     (λ stored a (v : Lists × ℕ). (ns : List ℕ) × (b : ℕ) × Numbers (amount r.numbers stored) bytes a ns b × AfterNumbers r bytes stored ns b v)
@@ -111,8 +111,8 @@ rep bytes at =
     let kind = slice_index bytes at in
     let rest = row_of (row_at rep_rows kind) bytes (at + 1) in
     let whole = kinded bytes at
-    (λ (v : Rep × ℕ). (kind_of v.0 ≡ kind) × HasRow (row_at rep_rows kind) bytes (at + 1) (dims_of v.0)
-    (numbers_of v.0) (deltas_of v.0) v.1) (RowFails (row_at rep_rows kind) bytes (at + 1)) (record {
+    (λ (v : Rep × ℕ). (kind_of v.0 ≡ kind) × HasRepetitionRow (row_at rep_rows kind) bytes (at + 1) (dims_of v.0)
+    (numbers_of v.0) (deltas_of v.0) v.1) (RepetitionRowFails (row_at rep_rows kind) bytes (at + 1)) (record {
       one = λ v w h k.
           let same = rest.one (((dims_of v.0, numbers_of v.0), deltas_of v.0), v.1) (((dims_of w.0, numbers_of w.0), deltas_of w.0), w.1) h.1 k.1 in
           pair_is v w (same_rep v.0 w.0 (h.0 ∙ sym k.0) (ap (λ p. p.0.0.0) same) (ap (λ p. p.0.0.1) same) (ap (λ p. p.0.1) same)) (ap (λ p. p.1) same);

@@ -2,7 +2,7 @@
 use Rattle.std.proofs.Common.{◌≡◌, ◌⊎◌, ◌<◌, ◌+◌, ℕ, false, IsTrue, List, [], ◌∷◌, ◌++◌, length, slice_index, refl, sym, subst}
 use Rattle.oas_record.specs.Faults.{NoBytes}
 use Rattle.oas_record.specs.Parts.{IsOf, NotOf, NoInfoByte}
-use Rattle.oas_record.specs.Records.{number_or, signed_or, rep_or, place_of, own_fields, shape_fields, row_at, HasInfo, HasRow, InfoFails}
+use Rattle.oas_record.specs.Records.{number_or, signed_or, rep_or, place_of, own_fields, shape_fields, row_at, HasInfo, HasRecordRow, InfoFails}
 use Rattle.oas_record.specs.Rows.{Field, allows, pair, place, HasFields, NoFields}
 use Rattle.oas_record.specs.Shapes.{form_id, info_of_form, own_parts, row_of, switches_by, HasOwn}
 use Rattle.oas_record.specs.declared.faults.RecordBad.{RecordBad}
@@ -18,7 +18,7 @@ use Rattle.oas_record.proofs.Switches.{place_moved, no_place_moved}
 -- ---- the row of a form is the row of its id
 
 row_there : (form : ShapeForm) (bytes : List ℕ) (at info : ℕ) (fields : List Field) (next : ℕ)
-    → HasInfo (row_of form) bytes at info fields next → HasRow (row_at (form_id form)) false bytes at info fields next
+    → HasInfo (row_of form) bytes at info fields next → HasRecordRow (row_at (form_id form)) false bytes at info fields next
 row_there forms.Rectangle bytes at info fields next h = h
 row_there forms.Polygon bytes at info fields next h = h
 row_there forms.Path bytes at info fields next h = h

@@ -1,14 +1,14 @@
 -- ---- what is promised, in reading order
-pub mod Faults
-pub mod Lists
-pub mod Decoded
-pub mod Repetitions
-pub mod Values
-pub mod Rows
 pub mod Records
-pub mod Laws
+pub mod Faults
+pub mod Rows
+pub mod Values
+pub mod Lists
+pub mod Repetitions
 pub mod Taken
-pub mod Plain
 -- ---- what is kept inside
+pub mod Decoded
+pub mod Laws
+pub mod Plain
 pub mod Parts
 pub mod Shapes

@@ -1,13 +1,13 @@
 -- What a reader of one row gives: the record of this id whose info byte and fields stand there, or what is wrong.
 use Rattle.std.specs.Prelude.{ℕ, ◌<◌, ◌≡◌, ◌⊎◌, Bool, true, false, if◌then◌else◌, Option, Some, None, List, [], ◌∷◌, length, slice_index}
 use Rattle.oas_record.specs.Faults.{NoBytes}
-use Rattle.oas_record.specs.Records.{id_of, info_of, fields_of, row_at, HasRow, NoRow}
-use Rattle.oas_record.specs.Rows.{Info, allows, Part, Row, OneReal, Bit, when}
+use Rattle.oas_record.specs.Records.{id_of, info_of, fields_of, row_at, HasRecordRow, NoRow}
+use Rattle.oas_record.specs.Rows.{Info, allows, Part, RecordRow, OneReal, Bit, when}
 use Rattle.oas_record.specs.declared.faults.RecordBad.{RecordBad}
 use Rattle.oas_record.specs.declared.faults.RecordBad.TheVariants as faults
 use Rattle.oas_record.specs.declared.records.OasRecord.{OasRecord}
 
-abbrev parts_in : Option Row → List Part
+abbrev parts_in : Option RecordRow → List Part
 parts_in (Some row) = row.parts
 parts_in None = []
 
@@ -18,7 +18,7 @@ parts_at id = parts_in (row_at id)
 -- the record is of this id, and what follows its id stands from `at` up to before `next`
 pub record IsOf (id : ℕ) (tables : Bool) (bytes : List ℕ) (at : ℕ) (r : OasRecord) (next : ℕ) : Type 0 where
   pub id_is : id_of r ≡ id
-  pub row : HasRow (row_at id) tables bytes at (info_of r) (fields_of r) next
+  pub row : HasRecordRow (row_at id) tables bytes at (info_of r) (fields_of r) next
 
 -- what follows this id doesn't stand at `at`, for this cause
 abbrev pub NotOf : ℕ → Bool → List ℕ → ℕ → RecordBad → Type 0

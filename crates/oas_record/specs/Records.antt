@@ -5,7 +5,7 @@ use Rattle.std.specs.Prelude.{List, [], ◌∷◌, ◌++◌, length, map, slice_
 use Rattle.oas_lex.specs.declared.reals.Real.{Real}
 use Rattle.oas_record.specs.Faults.{NoBytes}
 use Rattle.oas_record.specs.Rows.{Field, Absent, IsNumber, IsSigned, IsSpan, IsReal, IsCalled, IsInterval, IsPoints}
-use Rattle.oas_record.specs.Rows.{IsRep, Info, NoInfo, Below, Square, allows, Row, rows, HasFields, NoFields}
+use Rattle.oas_record.specs.Rows.{IsRep, Info, NoInfo, Below, Square, allows, RecordRow, rows, HasFields, NoFields}
 use Rattle.oas_record.specs.declared.faults.RecordBad.{RecordBad}
 use Rattle.oas_record.specs.declared.faults.RecordBad.TheVariants as faults
 use Rattle.oas_record.specs.declared.fields.Called.{Called}
@@ -174,7 +174,7 @@ fields_of (records.XElement attribute text) = IsNumber attribute ∷ IsSpan text
 -- ---- where it stands
 
 -- the row of an id
-abbrev pub row_at : ℕ → Option Row
+abbrev pub row_at : ℕ → Option RecordRow
 row_at id = get_or (map Some rows) id None
 
 -- the switches of a record without an info byte: whether END holds the table offsets
@@ -182,51 +182,51 @@ abbrev pub switch_of : Bool → ℕ
 switch_of tables = if tables then 1 else 0
 
 -- the info byte of a row that has one, and the fields after it
-pub record HasInfo (row : Row) (bytes : List ℕ) (at info : ℕ) (fields : List Field) (next : ℕ) : Type 0 where
+pub record HasInfo (row : RecordRow) (bytes : List ℕ) (at info : ℕ) (fields : List Field) (next : ℕ) : Type 0 where
   pub within : at < length bytes
   pub byte : info ≡ slice_index bytes at
   pub allowed : IsTrue (allows row.info info)
   pub fields_stand : HasFields row.parts info bytes (at + 1) fields next
 
-abbrev pub HasBody : Info → Row → Bool → List ℕ → ℕ → ℕ → List Field → ℕ → Type 0
+abbrev pub HasBody : Info → RecordRow → Bool → List ℕ → ℕ → ℕ → List Field → ℕ → Type 0
 HasBody NoInfo row tables bytes at info fields next =
     (info ≡ 0) × HasFields row.parts (switch_of tables) bytes at fields next
 HasBody (Below n) row tables bytes at info fields next = HasInfo row bytes at info fields next
 HasBody Square row tables bytes at info fields next = HasInfo row bytes at info fields next
 
 -- the info byte and the fields of a row stand from `at` up to before `next`
-abbrev pub HasRow : Option Row → Bool → List ℕ → ℕ → ℕ → List Field → ℕ → Type 0
-HasRow (Some row) tables bytes at info fields next = HasBody row.info row tables bytes at info fields next
-HasRow None tables bytes at info fields next = ⊥
+abbrev pub HasRecordRow : Option RecordRow → Bool → List ℕ → ℕ → ℕ → List Field → ℕ → Type 0
+HasRecordRow (Some row) tables bytes at info fields next = HasBody row.info row tables bytes at info fields next
+HasRecordRow None tables bytes at info fields next = ⊥
 
 -- the record stands from `at` up to before `next`; `tables` says whether END holds the table offsets
 pub record HasRecord (bytes : List ℕ) (at : ℕ) (tables : Bool) (r : OasRecord) (next : ℕ) : Type 0 where
   pub within : at < length bytes
   pub id : id_of r ≡ slice_index bytes at
-  pub row : HasRow (row_at (slice_index bytes at)) tables bytes (at + 1) (info_of r) (fields_of r) next
+  pub row : HasRecordRow (row_at (slice_index bytes at)) tables bytes (at + 1) (info_of r) (fields_of r) next
 
 -- ---- where none stands
 
 -- the info byte is there, and it isn't allowed or a field after it fails
-pub record InfoFails (row : Row) (bytes : List ℕ) (at : ℕ) (bad : RecordBad) : Type 0 where
+pub record InfoFails (row : RecordRow) (bytes : List ℕ) (at : ℕ) (bad : RecordBad) : Type 0 where
   pub within : at < length bytes
   pub fails : ((allows row.info (slice_index bytes at) ≡ false) × (bad ≡ faults.Shape))
       ⊎ (IsTrue (allows row.info (slice_index bytes at)) × NoFields row.parts (slice_index bytes at) bytes (at + 1) bad)
 
-abbrev pub NoBody : Info → Row → Bool → List ℕ → ℕ → RecordBad → Type 0
+abbrev pub NoBody : Info → RecordRow → Bool → List ℕ → ℕ → RecordBad → Type 0
 NoBody NoInfo row tables bytes at bad = NoFields row.parts (switch_of tables) bytes at bad
 NoBody (Below n) row tables bytes at bad = NoBytes bytes at 1 bad ⊎ InfoFails row bytes at bad
 NoBody Square row tables bytes at bad = NoBytes bytes at 1 bad ⊎ InfoFails row bytes at bad
 
 -- an id of no row is a compressed block's, 34, or no record's
-abbrev pub NoRow : Option Row → ℕ → Bool → List ℕ → ℕ → RecordBad → Type 0
+abbrev pub NoRow : Option RecordRow → ℕ → Bool → List ℕ → ℕ → RecordBad → Type 0
 NoRow (Some row) id tables bytes at bad = NoBody row.info row tables bytes at bad
 NoRow None id tables bytes at bad = bad ≡ (if nat_lt id 35 then faults.Packed else faults.Kind)
 
-pub record RowFails (bytes : List ℕ) (at : ℕ) (tables : Bool) (bad : RecordBad) : Type 0 where
+pub record RecordRowFails (bytes : List ℕ) (at : ℕ) (tables : Bool) (bad : RecordBad) : Type 0 where
   pub within : at < length bytes
   pub fails : NoRow (row_at (slice_index bytes at)) (slice_index bytes at) tables bytes (at + 1) bad
 
 -- no record stands at `at`, and the first byte that breaks shows this: the id isn't there, or it is and the rest isn't
 abbrev pub NoRecord : List ℕ → ℕ → Bool → RecordBad → Type 0
-NoRecord bytes at tables bad = NoBytes bytes at 1 bad ⊎ RowFails bytes at tables bad
+NoRecord bytes at tables bad = NoBytes bytes at 1 bad ⊎ RecordRowFails bytes at tables bad

@@ -123,7 +123,7 @@ deltas_of (reps.MovesOnGrid dim grid moves) = moves
 -- ---- where it stands
 
 -- the dimensions, numbers and g-deltas of a repetition of this row stand from `at` up to before `next`
-pub record HasParts (r : RepRow) (bytes : List ℕ) (at : ℕ) (dims numbers : List ℕ) (deltas : List Point) (next : ℕ) (stored : List ℕ) (a b : ℕ) : Type 0 where
+pub record HasRepetitionParts (r : RepRow) (bytes : List ℕ) (at : ℕ) (dims numbers : List ℕ) (deltas : List Point) (next : ℕ) (stored : List ℕ) (a b : ℕ) : Type 0 where
   pub dim_count : length stored ≡ r.dims
   pub stands_dims : HasNumbers bytes at stored a
   pub dims_are : dims ≡ map (λ n. n + 2) stored
@@ -132,16 +132,16 @@ pub record HasParts (r : RepRow) (bytes : List ℕ) (at : ℕ) (dims numbers : L
   pub delta_count : length deltas ≡ amount r.deltas stored
   pub stands_deltas : HasDeltas GDelta bytes b deltas next
 
-abbrev pub HasRow : Option RepRow → List ℕ → ℕ → List ℕ → List ℕ → List Point → ℕ → Type 0
-HasRow (Some r) bytes at dims numbers deltas next =
-    (stored : List ℕ) × (a : ℕ) × (b : ℕ) × HasParts r bytes at dims numbers deltas next stored a b
-HasRow None bytes at dims numbers deltas next = ⊥
+abbrev pub HasRepetitionRow : Option RepRow → List ℕ → ℕ → List ℕ → List ℕ → List Point → ℕ → Type 0
+HasRepetitionRow (Some r) bytes at dims numbers deltas next =
+    (stored : List ℕ) × (a : ℕ) × (b : ℕ) × HasRepetitionParts r bytes at dims numbers deltas next stored a b
+HasRepetitionRow None bytes at dims numbers deltas next = ⊥
 
 -- the repetition stands from `at` up to before `next`
 pub record HasRep (bytes : List ℕ) (at : ℕ) (rep : Rep) (next : ℕ) : Type 0 where
   pub within : at < length bytes
   pub kind : kind_of rep ≡ slice_index bytes at
-  pub parts : HasRow (row_at rep_rows (slice_index bytes at)) bytes (at + 1) (dims_of rep) (numbers_of rep) (deltas_of rep) next
+  pub parts : HasRepetitionRow (row_at rep_rows (slice_index bytes at)) bytes (at + 1) (dims_of rep) (numbers_of rep) (deltas_of rep) next
 
 -- ---- where none stands
 
@@ -152,16 +152,16 @@ AfterDims r stored bytes a bad =
     ⊎ ((numbers : List ℕ) × (b : ℕ) × ((length numbers ≡ amount r.numbers stored) × HasNumbers bytes a numbers b)
     × NoDeltas GDelta (amount r.deltas stored) bytes b bad)
 
-abbrev pub RowFails : Option RepRow → List ℕ → ℕ → RecordBad → Type 0
-RowFails (Some r) bytes at bad =
+abbrev pub RepetitionRowFails : Option RepRow → List ℕ → ℕ → RecordBad → Type 0
+RepetitionRowFails (Some r) bytes at bad =
     NoNumbers r.dims bytes at bad
     ⊎ ((stored : List ℕ) × (a : ℕ) × ((length stored ≡ r.dims) × HasNumbers bytes at stored a) × AfterDims r stored bytes a bad)
-RowFails None bytes at bad = bad ≡ faults.Shape
+RepetitionRowFails None bytes at bad = bad ≡ faults.Shape
 
-pub record PartsFail (bytes : List ℕ) (at : ℕ) (bad : RecordBad) : Type 0 where
+pub record RepetitionFails (bytes : List ℕ) (at : ℕ) (bad : RecordBad) : Type 0 where
   pub within : at < length bytes
-  pub fails : RowFails (row_at rep_rows (slice_index bytes at)) bytes (at + 1) bad
+  pub fails : RepetitionRowFails (row_at rep_rows (slice_index bytes at)) bytes (at + 1) bad
 
 -- no repetition stands at `at`, for this cause: its kind isn't there, or its kind is and the rest isn't
 abbrev pub NoRep : List ℕ → ℕ → RecordBad → Type 0
-NoRep bytes at bad = NoBytes bytes at 1 bad ⊎ PartsFail bytes at bad
+NoRep bytes at bad = NoBytes bytes at 1 bad ⊎ RepetitionFails bytes at bad

@@ -238,11 +238,11 @@ pub record Part : Type 0 where
 abbrev pub when : Guard → Form → Part
 when guard form = record { guard = guard; form = form }
 
-pub record Row : Type 0 where
+pub record RecordRow : Type 0 where
   pub info : Info
   pub parts : List Part
 
-abbrev row : Info → List Part → Row
+abbrev row : Info → List Part → RecordRow
 row info parts = record { info = info; parts = parts }
 
 -- the fields with which the records of shapes begin and end
@@ -259,7 +259,7 @@ abbrev pub placed : List Part
 placed = when (Bit 5) Signed ∷ when (Bit 4) Signed ∷ when (Bit 3) Repetition ∷ []
 
 -- one row an id, from id 0 on
-abbrev pub rows : List Row
+abbrev pub rows : List RecordRow
 rows =
     -- 0 PAD
     row NoInfo []

@@ -2,7 +2,7 @@
 use Rattle.std.specs.Prelude.{ℕ, ◌≡◌, List, [], ◌∷◌, ◌++◌}
 use Rattle.oas_record.specs.Records.{number_or, shape_id, fields_before, own_fields}
 use Rattle.oas_record.specs.Rows.{Number, Signed, PolygonPoints, PathPoints, TrapezoidType, Extension, Always, Bit, Both, Part, when}
-use Rattle.oas_record.specs.Rows.{Info, Below, Square, Row, Field, pair, box, place, switches_after, with_extension, HasFields}
+use Rattle.oas_record.specs.Rows.{Info, Below, Square, RecordRow, Field, pair, box, place, switches_after, with_extension, HasFields}
 use Rattle.oas_record.specs.declared.shape_form.ShapeForm.{ShapeForm}
 use Rattle.oas_record.specs.declared.shape_form.ShapeForm.TheVariants as forms
 use Rattle.oas_record.specs.declared.shapes.ShapeKind.{ShapeKind}
@@ -46,7 +46,7 @@ own_parts forms.TrapezoidB = box ++ (when Always Signed ∷ [])
 own_parts forms.Ctrapezoid = when (Bit 7) TrapezoidType ∷ box
 own_parts forms.Circle = when (Bit 5) Number ∷ []
 
-abbrev pub row_of : ShapeForm → Row
+abbrev pub row_of : ShapeForm → RecordRow
 row_of form = record { info = info_of_form form; parts = pair ++ (own_parts form ++ place) }
 
 -- the switches after some fields

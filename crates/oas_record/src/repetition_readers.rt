@@ -1,7 +1,7 @@
 //! Repetitions among bytes.
 
 ghost use Rattle.std.specs.Prelude.{◌≡◌, ◌+◌, ◌<◌, ◌≤◌, ◌^◌, Some, [], ◌∷◌, length, IfOk, IfErr};
-ghost use Rattle.oas_record.specs.Repetitions.{rep_rows, row_at, kind_of, dims_of, numbers_of, deltas_of, HasRow, HasRep, RowFails, NoRep};
+ghost use Rattle.oas_record.specs.Repetitions.{rep_rows, row_at, kind_of, dims_of, numbers_of, deltas_of, HasRepetitionRow, HasRep, RepetitionRowFails, NoRep};
 
 use crate::delta_form::DeltaForm;
 use crate::deltas::delta_at;
@@ -26,8 +26,8 @@ fn dimension(stored: u64) -> u64
 // A dimension and a space.
 fn spaced(bytes: &[u8], at: usize) -> Result<(u64, u64, usize), RecordBad>
     requires { at ≤ length bytes.now }
-    ensures ok { IfOk result (λ r. HasRow (row_at rep_rows 2) bytes.now at (r.0 ∷ []) (r.1 ∷ []) [] r.2) }
-    ensures bad { IfErr result (λ bad. RowFails (row_at rep_rows 2) bytes.now at bad) }
+    ensures ok { IfOk result (λ r. HasRepetitionRow (row_at rep_rows 2) bytes.now at (r.0 ∷ []) (r.1 ∷ []) [] r.2) }
+    ensures bad { IfErr result (λ bad. RepetitionRowFails (row_at rep_rows 2) bytes.now at bad) }
     ensures within { IfOk result (λ r. r.2 ≤ length bytes.now) }
 {
     let (stored, first) = number_at(bytes, at)?;
@@ -39,8 +39,8 @@ fn spaced(bytes: &[u8], at: usize) -> Result<(u64, u64, usize), RecordBad>
 fn grid(bytes: &[u8], at: usize) -> Result<(Rep<'_>, usize), RecordBad>
     requires { at ≤ length bytes.now }
     ensures kind { IfOk result (λ r. kind_of r.0 ≡ 1) }
-    ensures ok { IfOk result (λ r. HasRow (row_at rep_rows 1) bytes.now at (dims_of r.0) (numbers_of r.0) (deltas_of r.0) r.1) }
-    ensures bad { IfErr result (λ bad. RowFails (row_at rep_rows 1) bytes.now at bad) }
+    ensures ok { IfOk result (λ r. HasRepetitionRow (row_at rep_rows 1) bytes.now at (dims_of r.0) (numbers_of r.0) (deltas_of r.0) r.1) }
+    ensures bad { IfErr result (λ bad. RepetitionRowFails (row_at rep_rows 1) bytes.now at bad) }
     ensures within { IfOk result (λ r. r.1 ≤ length bytes.now) }
 {
     let (x_stored, second) = number_at(bytes, at)?;
@@ -59,8 +59,8 @@ fn grid(bytes: &[u8], at: usize) -> Result<(Rep<'_>, usize), RecordBad>
 // A dimension, and one space fewer.
 fn spaces(bytes: &[u8], at: usize) -> Result<(u64, Numbers<'_>, usize), RecordBad>
     requires { at ≤ length bytes.now }
-    ensures ok { IfOk result (λ r. HasRow (row_at rep_rows 4) bytes.now at (r.0 ∷ []) r.1 [] r.2) }
-    ensures bad { IfErr result (λ bad. RowFails (row_at rep_rows 4) bytes.now at bad) }
+    ensures ok { IfOk result (λ r. HasRepetitionRow (row_at rep_rows 4) bytes.now at (r.0 ∷ []) r.1 [] r.2) }
+    ensures bad { IfErr result (λ bad. RepetitionRowFails (row_at rep_rows 4) bytes.now at bad) }
     ensures within { IfOk result (λ r. r.2 ≤ length bytes.now) }
 {
     let (stored, first) = number_at(bytes, at)?;
@@ -71,8 +71,8 @@ fn spaces(bytes: &[u8], at: usize) -> Result<(u64, Numbers<'_>, usize), RecordBa
 // A dimension, a grid, and one space fewer than the dimension.
 fn spaces_on_grid(bytes: &[u8], at: usize) -> Result<(u64, u64, Numbers<'_>, usize), RecordBad>
     requires { at ≤ length bytes.now }
-    ensures ok { IfOk result (λ r. HasRow (row_at rep_rows 5) bytes.now at (r.0 ∷ []) (r.1 ∷ r.2) [] r.3) }
-    ensures bad { IfErr result (λ bad. RowFails (row_at rep_rows 5) bytes.now at bad) }
+    ensures ok { IfOk result (λ r. HasRepetitionRow (row_at rep_rows 5) bytes.now at (r.0 ∷ []) (r.1 ∷ r.2) [] r.3) }
+    ensures bad { IfErr result (λ bad. RepetitionRowFails (row_at rep_rows 5) bytes.now at bad) }
     ensures within { IfOk result (λ r. r.3 ≤ length bytes.now) }
 {
     let (stored, grid_at) = number_at(bytes, at)?;
@@ -85,8 +85,8 @@ fn spaces_on_grid(bytes: &[u8], at: usize) -> Result<(u64, u64, Numbers<'_>, usi
 fn lattice(bytes: &[u8], at: usize) -> Result<(Rep<'_>, usize), RecordBad>
     requires { at ≤ length bytes.now }
     ensures kind { IfOk result (λ r. kind_of r.0 ≡ 8) }
-    ensures ok { IfOk result (λ r. HasRow (row_at rep_rows 8) bytes.now at (dims_of r.0) (numbers_of r.0) (deltas_of r.0) r.1) }
-    ensures bad { IfErr result (λ bad. RowFails (row_at rep_rows 8) bytes.now at bad) }
+    ensures ok { IfOk result (λ r. HasRepetitionRow (row_at rep_rows 8) bytes.now at (dims_of r.0) (numbers_of r.0) (deltas_of r.0) r.1) }
+    ensures bad { IfErr result (λ bad. RepetitionRowFails (row_at rep_rows 8) bytes.now at bad) }
     ensures within { IfOk result (λ r. r.1 ≤ length bytes.now) }
 {
     let (n_stored, second) = number_at(bytes, at)?;
@@ -106,8 +106,8 @@ fn lattice(bytes: &[u8], at: usize) -> Result<(Rep<'_>, usize), RecordBad>
 fn line(bytes: &[u8], at: usize) -> Result<(Rep<'_>, usize), RecordBad>
     requires { at ≤ length bytes.now }
     ensures kind { IfOk result (λ r. kind_of r.0 ≡ 9) }
-    ensures ok { IfOk result (λ r. HasRow (row_at rep_rows 9) bytes.now at (dims_of r.0) (numbers_of r.0) (deltas_of r.0) r.1) }
-    ensures bad { IfErr result (λ bad. RowFails (row_at rep_rows 9) bytes.now at bad) }
+    ensures ok { IfOk result (λ r. HasRepetitionRow (row_at rep_rows 9) bytes.now at (dims_of r.0) (numbers_of r.0) (deltas_of r.0) r.1) }
+    ensures bad { IfErr result (λ bad. RepetitionRowFails (row_at rep_rows 9) bytes.now at bad) }
     ensures within { IfOk result (λ r. r.1 ≤ length bytes.now) }
 {
     let (stored, first) = number_at(bytes, at)?;
@@ -123,8 +123,8 @@ fn line(bytes: &[u8], at: usize) -> Result<(Rep<'_>, usize), RecordBad>
 fn moves(bytes: &[u8], at: usize) -> Result<(Rep<'_>, usize), RecordBad>
     requires { at ≤ length bytes.now }
     ensures kind { IfOk result (λ r. kind_of r.0 ≡ 10) }
-    ensures ok { IfOk result (λ r. HasRow (row_at rep_rows 10) bytes.now at (dims_of r.0) (numbers_of r.0) (deltas_of r.0) r.1) }
-    ensures bad { IfErr result (λ bad. RowFails (row_at rep_rows 10) bytes.now at bad) }
+    ensures ok { IfOk result (λ r. HasRepetitionRow (row_at rep_rows 10) bytes.now at (dims_of r.0) (numbers_of r.0) (deltas_of r.0) r.1) }
+    ensures bad { IfErr result (λ bad. RepetitionRowFails (row_at rep_rows 10) bytes.now at bad) }
     ensures within { IfOk result (λ r. r.1 ≤ length bytes.now) }
 {
     let (stored, first) = number_at(bytes, at)?;
@@ -140,8 +140,8 @@ fn moves(bytes: &[u8], at: usize) -> Result<(Rep<'_>, usize), RecordBad>
 fn moves_on_grid(bytes: &[u8], at: usize) -> Result<(Rep<'_>, usize), RecordBad>
     requires { at ≤ length bytes.now }
     ensures kind { IfOk result (λ r. kind_of r.0 ≡ 11) }
-    ensures ok { IfOk result (λ r. HasRow (row_at rep_rows 11) bytes.now at (dims_of r.0) (numbers_of r.0) (deltas_of r.0) r.1) }
-    ensures bad { IfErr result (λ bad. RowFails (row_at rep_rows 11) bytes.now at bad) }
+    ensures ok { IfOk result (λ r. HasRepetitionRow (row_at rep_rows 11) bytes.now at (dims_of r.0) (numbers_of r.0) (deltas_of r.0) r.1) }
+    ensures bad { IfErr result (λ bad. RepetitionRowFails (row_at rep_rows 11) bytes.now at bad) }
     ensures within { IfOk result (λ r. r.1 ≤ length bytes.now) }
 {
     let (stored, grid_at) = number_at(bytes, at)?;
@@ -159,8 +159,8 @@ fn moves_on_grid(bytes: &[u8], at: usize) -> Result<(Rep<'_>, usize), RecordBad>
 fn rest_of(bytes: &[u8], at: usize, kind: u8) -> Result<(Rep<'_>, usize), RecordBad>
     requires { at ≤ length bytes.now }
     ensures kind { IfOk result (λ r. kind_of r.0 ≡ kind) }
-    ensures ok { IfOk result (λ r. HasRow (row_at rep_rows kind) bytes.now at (dims_of r.0) (numbers_of r.0) (deltas_of r.0) r.1) }
-    ensures bad { IfErr result (λ bad. RowFails (row_at rep_rows kind) bytes.now at bad) }
+    ensures ok { IfOk result (λ r. HasRepetitionRow (row_at rep_rows kind) bytes.now at (dims_of r.0) (numbers_of r.0) (deltas_of r.0) r.1) }
+    ensures bad { IfErr result (λ bad. RepetitionRowFails (row_at rep_rows kind) bytes.now at bad) }
     ensures within { IfOk result (λ r. r.1 ≤ length bytes.now) }
 {
     match kind {

@@ -11,7 +11,7 @@ use Rattle.layout_model.specs.Layouts.{IsMove, AreOffsets, IsShapeOnGrid}
 use Rattle.layout_model.specs.declared.pair.Pair.{Pair}
 use Rattle.oas_shapes.specs.Figures.{IsSize, IsSized}
 use Rattle.oas_shapes.specs.Outlines.{figure_outline, outline_shape}
-use Rattle.oas_shapes.specs.Plane.{point, origin, doubled, IsNear, IsNearInHalves}
+use Rattle.oas_shapes.specs.Plane.{point, origin, doubled, IsNearInSteps, IsNearInHalves}
 use Rattle.oas_shapes.specs.Rules.{AreNear, KeepsFigure, IsLowest}
 use Rattle.oas_shapes.specs.declared.figures.Figure.TheVariants.{Rectangle}
 use Rattle.oas_shapes.proofs.NearLemmas.{halves_near, near_halves}
@@ -37,12 +37,12 @@ ring_near : (a c : Point) → IsNearInHalves a → IsNearInHalves c → AreNear 
 ring_near a c m n =
     All-from_recursion IsNearInHalves (ring_between a c true) (m, (corner_near a c m n, (n, (corner_near c a n m, (m, tt)))))
 
-outline_near : (at : Point) (w h : ℕ) → IsNear at → IsNear (high_of at w h) → AreNear (figure_outline at (Rectangle w h))
+outline_near : (at : Point) (w h : ℕ) → IsNearInSteps at → IsNearInSteps (high_of at w h) → AreNear (figure_outline at (Rectangle w h))
 outline_near at w h m n =
     subst AreNear (sym (outline_is at w h)) (ring_near (doubled at) (doubled (high_of at w h)) (halves_near at m) (halves_near (high_of at w h) n))
 
 -- one that isn't near breaks rule 1
-pub high_far : (at : Point) (w h : ℕ) → (IsNear (high_of at w h) → ⊥) → (IsSized (Rectangle w h) × AreNear (figure_outline at (Rectangle w h)) → ⊥)
+pub high_far : (at : Point) (w h : ℕ) → (IsNearInSteps (high_of at w h) → ⊥) → (IsSized (Rectangle w h) × AreNear (figure_outline at (Rectangle w h)) → ⊥)
 high_far at w h far keeps = far (near_halves (high_of at w h) (keeps.1 2 origin (omega arith)))
 
 pub first_broken : (at : Point) (w h : ℕ) → (IsSized (Rectangle w h) × AreNear (figure_outline at (Rectangle w h)) → ⊥)
@@ -74,8 +74,8 @@ alone = record {
 pub record IsBox (at : Point) (w h : ℕ) (low high : Point) : Type 0 where
   pub width : IsSize w
   pub height : IsSize h
-  pub at_near : IsNear at
-  pub high_near : IsNear (high_of at w h)
+  pub at_near : IsNearInSteps at
+  pub high_near : IsNearInSteps (high_of at w h)
   pub low_is : low ≡ doubled at
   pub high_is : high ≡ doubled (high_of at w h)
   pub edges : HasGridEdges (ring_between low high true)
@@ -103,13 +103,13 @@ box_on_grid pair at w h low high b =
     on_grid pair (figure_outline at (Rectangle w h)) (origin ∷ []) (subst IsClosed same b.closed) (subst HasGridEdges same b.edges)
     (outline_near at w h b.at_near b.high_near) alone
 
-pub box_of : (at : Point) (w h : ℕ) (far low high : Point) → IsSize w → IsSize h → IsNear at → (far ≡ high_of at w h) × IsNear far
+pub box_of : (at : Point) (w h : ℕ) (far low high : Point) → IsSize w → IsSize h → IsNearInSteps at → (far ≡ high_of at w h) × IsNearInSteps far
     → low ≡ doubled at → high ≡ doubled far → HasGridEdges (ring_between low high true) → IsClosed (ring_between low high true) → IsBox at w h low high
 box_of at w h far low high width height at_near far_is low_is high_is edges closed = record {
   width = width;
   height = height;
   at_near = at_near;
-  high_near = subst IsNear far_is.0 far_is.1;
+  high_near = subst IsNearInSteps far_is.0 far_is.1;
   low_is = low_is;
   high_is = high_is ∙ ap doubled far_is.0;
   edges = edges;

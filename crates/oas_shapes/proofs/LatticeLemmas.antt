@@ -15,7 +15,7 @@ use Rattle.half_grid.specs.Reach.{IsPointWithinReach}
 use Rattle.half_grid.specs.declared.plane.Point.{Point}
 use Rattle.layout_model.specs.Grids.{IsGrid, grid_place, grid_places, nth_place}
 use Rattle.layout_model.specs.Images.{moved, enlarged}
-use Rattle.oas_shapes.specs.Plane.{origin, doubled, IsLength, IsNear}
+use Rattle.oas_shapes.specs.Plane.{origin, doubled, IsLength, IsNearInSteps}
 use Rattle.oas_shapes.proofs.NearLemmas.{map_same, same_point}
 use Rattle.oas_shapes.proofs.TrailLemmas.{origin_near}
 
@@ -62,15 +62,15 @@ sum_near a n b m (negsuc x) (negsuc y) h k p q r =
     let g : b * (y + 1) ≤ m * (y + 1) = mul-le-mul_right (y + 1) k in
     record { low = omega (arith, ints, f, g, r.low); high = omega (arith, ints) }
 
-of_near : (p : Point) → IsNear p → IsLength p.x × IsLength p.y
+of_near : (p : Point) → IsNearInSteps p → IsLength p.x × IsLength p.y
 of_near p n = (record { low = n.x_low; high = n.x_high }, record { low = n.y_low; high = n.y_high })
 
-pub near_of : (p : Point) → IsLength p.x → IsLength p.y → IsNear p
+pub near_of : (p : Point) → IsLength p.x → IsLength p.y → IsNearInSteps p
 near_of p x y = record { x_low = x.low; x_high = x.high; y_low = y.low; y_high = y.high }
 
-pub all_near : (nu nv : ℕ) (u v : Point) → 1 ≤ nu → IsNear (enlarged (nu - 1) u) → IsNear (enlarged (nv - 1) v)
-    → IsNear (moved (enlarged (nu - 1) u) (enlarged (nv - 1) v)) → All IsNear (grid_places nu nv u v)
-all_near nu nv u v some across upward both = grid_all IsNear nu nv u v some (λ a b ha hb.
+pub all_near : (nu nv : ℕ) (u v : Point) → 1 ≤ nu → IsNearInSteps (enlarged (nu - 1) u) → IsNearInSteps (enlarged (nv - 1) v)
+    → IsNearInSteps (moved (enlarged (nu - 1) u) (enlarged (nv - 1) v)) → All IsNearInSteps (grid_places nu nv u v)
+all_near nu nv u v some across upward both = grid_all IsNearInSteps nu nv u v some (λ a b ha hb.
     let p = of_near (enlarged (nu - 1) u) across in
     let q = of_near (enlarged (nv - 1) v) upward in
     let r = of_near (moved (enlarged (nu - 1) u) (enlarged (nv - 1) v)) both in
@@ -93,16 +93,16 @@ along_both u v a b =
     same_point ((pos a *ℤ u.x) +ℤ (pos b *ℤ v.x)) ((pos b *ℤ v.x) +ℤ (pos a *ℤ u.x)) ((pos a *ℤ u.y) +ℤ (pos b *ℤ v.y))
     ((pos b *ℤ v.y) +ℤ (pos a *ℤ u.y)) (omega (arith, ints)) (omega (arith, ints))
 
-pub across_near : (nu nv : ℕ) (u v : Point) → 1 ≤ nu → 1 ≤ nv → All IsNear (grid_places nu nv u v) → IsNear (enlarged (nu - 1) u)
-across_near nu nv u v h k all = subst IsNear (along_first u v (nu - 1)) (grid_at IsNear nu nv u v all (nu - 1) 0 (omega arith) (omega arith))
+pub across_near : (nu nv : ℕ) (u v : Point) → 1 ≤ nu → 1 ≤ nv → All IsNearInSteps (grid_places nu nv u v) → IsNearInSteps (enlarged (nu - 1) u)
+across_near nu nv u v h k all = subst IsNearInSteps (along_first u v (nu - 1)) (grid_at IsNearInSteps nu nv u v all (nu - 1) 0 (omega arith) (omega arith))
 
-pub upward_near : (nu nv : ℕ) (u v : Point) → 1 ≤ nu → 1 ≤ nv → All IsNear (grid_places nu nv u v) → IsNear (enlarged (nv - 1) v)
-upward_near nu nv u v h k all = subst IsNear (along_second u v (nv - 1)) (grid_at IsNear nu nv u v all 0 (nv - 1) (omega arith) (omega arith))
+pub upward_near : (nu nv : ℕ) (u v : Point) → 1 ≤ nu → 1 ≤ nv → All IsNearInSteps (grid_places nu nv u v) → IsNearInSteps (enlarged (nv - 1) v)
+upward_near nu nv u v h k all = subst IsNearInSteps (along_second u v (nv - 1)) (grid_at IsNearInSteps nu nv u v all 0 (nv - 1) (omega arith) (omega arith))
 
-pub both_near : (nu nv : ℕ) (u v : Point) → 1 ≤ nu → 1 ≤ nv → All IsNear (grid_places nu nv u v)
-    → IsNear (moved (enlarged (nu - 1) u) (enlarged (nv - 1) v))
+pub both_near : (nu nv : ℕ) (u v : Point) → 1 ≤ nu → 1 ≤ nv → All IsNearInSteps (grid_places nu nv u v)
+    → IsNearInSteps (moved (enlarged (nu - 1) u) (enlarged (nv - 1) v))
 both_near nu nv u v h k all =
-    subst IsNear (along_both u v (nu - 1) (nv - 1)) (grid_at IsNear nu nv u v all (nu - 1) (nv - 1) (omega arith) (omega arith))
+    subst IsNearInSteps (along_both u v (nu - 1) (nv - 1)) (grid_at IsNearInSteps nu nv u v all (nu - 1) (nv - 1) (omega arith) (omega arith))
 
 -- ---- in half units
 
@@ -128,13 +128,13 @@ doubled_grid nu nv u v =
     ∙ map_same (λ k. doubled (nth_place nu u v k)) (nth_place nu (doubled u) (doubled v)) (λ k. doubled_place u v (k % nu) (k / nu))
     (range_with_len 0 (nu * nv))
 
-reach_of : (p : Point) → IsNear p → IsPointWithinReach (doubled p)
+reach_of : (p : Point) → IsNearInSteps p → IsPointWithinReach (doubled p)
 reach_of p n = record {
   x = record { low = omega (arith, ints, n.x_low); high = omega (arith, ints, n.x_high) };
   y = record { low = omega (arith, ints, n.y_low); high = omega (arith, ints, n.y_high) };
 }
 
-pub is_grid : (nu nv : ℕ) (u v : Point) → 1 ≤ nu → nu ≤ 16777216 → 1 ≤ nv → nv ≤ 16777216 → All IsNear (grid_places nu nv u v)
+pub is_grid : (nu nv : ℕ) (u v : Point) → 1 ≤ nu → nu ≤ 16777216 → 1 ≤ nv → nv ≤ 16777216 → All IsNearInSteps (grid_places nu nv u v)
     → IsGrid nu nv (doubled u) (doubled v)
 is_grid nu nv u v h few k less all = record {
   some_columns = h;
@@ -142,7 +142,7 @@ is_grid nu nv u v h few k less all = record {
   some_rows = k;
   few_rows = less;
   reach = λ a b ha hb.
-      subst IsPointWithinReach (doubled_place u v a b) (reach_of (grid_place u v a b) (grid_at IsNear nu nv u v all a b ha hb));
+      subst IsPointWithinReach (doubled_place u v a b) (reach_of (grid_place u v a b) (grid_at IsNearInSteps nu nv u v all a b ha hb));
 }
 
 some_cells : (m n : ℕ) → 1 ≤ m → 1 ≤ n → 1 ≤ m * n
@@ -162,7 +162,7 @@ some_in_grid nu nv u v h k e =
     absurd (let none : length (map doubled (grid_places nu nv u v)) ≡ 0 = ap length e in omega (arith, none, count, some))
 
 -- the steps of a lattice that is near are near
-step_near : (n : ℕ) (u : Point) → IsNear (enlarged (n - 1) u) → 2 ≤ n → IsNear u
+step_near : (n : ℕ) (u : Point) → IsNearInSteps (enlarged (n - 1) u) → 2 ≤ n → IsNearInSteps u
 step_near n u near many =
     near_of u (part (n - 1) u.x (omega arith) (of_near (enlarged (n - 1) u) near).0) (part (n - 1) u.y (omega arith) (of_near (enlarged (n - 1) u) near).1)
   where
@@ -172,6 +172,6 @@ step_near n u near many =
         let f : 1 * (x + 1) ≤ n * (x + 1) = mul-le-mul_right (x + 1) h in
         record { low = omega (arith, ints, f, p.low); high = omega (arith, ints) }
 
-pub step_or_none : (n : ℕ) (u : Point) → IsNear (enlarged (n - 1) u) → (2 ≤ n) ⊎ (u ≡ origin) → IsNear u
+pub step_or_none : (n : ℕ) (u : Point) → IsNearInSteps (enlarged (n - 1) u) → (2 ≤ n) ⊎ (u ≡ origin) → IsNearInSteps u
 step_or_none n u near (inl many) = step_near n u near many
-step_or_none n u near (inr none) = subst IsNear (sym none) origin_near
+step_or_none n u near (inr none) = subst IsNearInSteps (sym none) origin_near

@@ -19,7 +19,7 @@ use Rattle.layout_model.specs.Layouts.{IsWithin}
 use Rattle.oas_record.specs.declared.fields.Deltas.{Deltas}
 use Rattle.oas_shapes.specs.Moves.{steps_between, way_between, low_corner, high_corner, IsItsOutline}
 use Rattle.oas_shapes.specs.Outlines.{closed, outline_of, polygon_outline, path_points}
-use Rattle.oas_shapes.specs.Plane.{point, doubled, places_along, IsNear, IsNearInHalves}
+use Rattle.oas_shapes.specs.Plane.{point, doubled, places_along, IsNearInSteps, IsNearInHalves}
 use Rattle.oas_shapes.specs.PointLists.{implied, moves_by}
 use Rattle.oas_shapes.specs.Rules.{AreNear}
 use Rattle.oas_shapes.specs.declared.outlines.Made.{Made}
@@ -126,7 +126,7 @@ edges_there d made to is = subst HasGridEdges (outline_there d made to is) (edge
 
 -- ---- near 0 by the box
 
-pub way_small : (from to : Point) → IsNear from → IsNear to → IsWithin (2 ^ 42) (way_between from to)
+pub way_small : (from to : Point) → IsNearInSteps from → IsNearInSteps to → IsWithin (2 ^ 42) (way_between from to)
 way_small from to m n = record {
   x_low = omega (arith, ints, m.x_low, m.x_high, n.x_low, n.x_high);
   x_high = omega (arith, ints, m.x_low, m.x_high, n.x_low, n.x_high);

@@ -6,14 +6,14 @@ use Rattle.std.proofs.lemmas.List.Elements.{All-nil, All-cons, All-head, All-tai
 use Rattle.half_grid.specs.Halves.{twice, is_even}
 use Rattle.half_grid.specs.declared.plane.Point.{Point}
 use Rattle.layout_model.specs.Layouts.{IsMove, AreOffsets}
-use Rattle.oas_shapes.specs.Plane.{point, doubled, IsNear, IsNearInHalves}
+use Rattle.oas_shapes.specs.Plane.{point, doubled, IsNearInSteps, IsNearInHalves}
 use Rattle.oas_shapes.specs.Rules.{AreNear}
 
 even_twice : (z : ℤ) → is_even (twice z) ≡ true
 even_twice (pos n) = grind (arith, ints)
 even_twice (negsuc n) = grind (arith, ints)
 
-pub halves_near : (p : Point) → IsNear p → IsNearInHalves (doubled p)
+pub halves_near : (p : Point) → IsNearInSteps p → IsNearInHalves (doubled p)
 halves_near p n = record {
   x_low = omega (arith, ints, n.x_low);
   x_high = omega (arith, ints, n.x_high);
@@ -21,7 +21,7 @@ halves_near p n = record {
   y_high = omega (arith, ints, n.y_high);
 }
 
-pub near_halves : (p : Point) → IsNearInHalves (doubled p) → IsNear p
+pub near_halves : (p : Point) → IsNearInHalves (doubled p) → IsNearInSteps p
 near_halves p n = record {
   x_low = omega (arith, ints, n.x_low);
   x_high = omega (arith, ints, n.x_high);
@@ -42,12 +42,12 @@ pub map_same : {X Y : Type 0} (f g : X → Y) → ((x : X) → f x ≡ g x) → 
 map_same f g e [] = refl
 map_same f g e (x ∷ xs) = ap (λ y. y ∷ map f xs) (e x) ∙ ap (λ ys. g x ∷ ys) (map_same f g e xs)
 
-pub all_halves : (ps : List Point) → All IsNear ps → AreNear (map doubled ps)
-all_halves ps h = All-map IsNearInHalves doubled ps (All-weaker IsNear (λ p. IsNearInHalves (doubled p)) halves_near ps h)
+pub all_halves : (ps : List Point) → All IsNearInSteps ps → AreNear (map doubled ps)
+all_halves ps h = All-map IsNearInHalves doubled ps (All-weaker IsNearInSteps (λ p. IsNearInHalves (doubled p)) halves_near ps h)
 
-pub halves_all : (ps : List Point) → AreNear (map doubled ps) → All IsNear ps
+pub halves_all : (ps : List Point) → AreNear (map doubled ps) → All IsNearInSteps ps
 halves_all ps h =
-    All-weaker (λ p. IsNearInHalves (doubled p)) IsNear near_halves ps (all_mapped IsNearInHalves doubled ps h)
+    All-weaker (λ p. IsNearInHalves (doubled p)) IsNearInSteps near_halves ps (all_mapped IsNearInHalves doubled ps h)
 
 pub is_move : (p : Point) → IsNearInHalves (doubled p) → IsMove (doubled p)
 is_move p n = record { even_x = even_twice p.x; even_y = even_twice p.y; near = n }

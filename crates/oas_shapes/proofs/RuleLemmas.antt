@@ -6,7 +6,7 @@ use Rattle.oas_record.specs.declared.fields.Deltas.{Deltas}
 use Rattle.oas_record.specs.declared.repetition.Rep.{Rep}
 use Rattle.oas_shapes.specs.Figures.{IsSized}
 use Rattle.oas_shapes.specs.Outlines.{figure_outline, polygon_outline, path_points}
-use Rattle.oas_shapes.specs.Rules.{AreNear, IsBrush, KeepsShape, KeepsFigure, KeepsPolygon, KeepsPath, IsLowest}
+use Rattle.oas_shapes.specs.Rules.{AreNear, IsBrush, KeepsShape, KeepsFigure, KeepsPolygon, KeepsOasisPath, IsLowest}
 use Rattle.oas_shapes.specs.Brushes.{KeepsCourse, halves_of}
 use Rattle.oas_shapes.specs.declared.figures.Figure.{Figure}
 use Rattle.oas_shapes.specs.declared.figures.Brush.{Brush}
@@ -56,15 +56,15 @@ polygon_far at deltas rep far = record {
 -- ---- paths
 
 pub path_keeps : (at : Point) (brush : Brush) (deltas : Deltas) (rep : Option Rep) → IsBrush brush → AreNear (path_points at deltas) → (rule : ℕ)
-    → KeepsCourse (halves_of brush) (path_points at deltas) rep rule → KeepsPath at brush deltas rep rule
+    → KeepsCourse (halves_of brush) (path_points at deltas) rep rule → KeepsOasisPath at brush deltas rep rule
 path_keeps at brush deltas rep short near rule k = record { near = λ e. (short, near, k.near e); drawn = k.drawn; dimension = k.dimension }
 
-keeps_path : (at : Point) (brush : Brush) (deltas : Deltas) (rep : Option Rep) (rule : ℕ) → KeepsPath at brush deltas rep rule
+keeps_path : (at : Point) (brush : Brush) (deltas : Deltas) (rep : Option Rep) (rule : ℕ) → KeepsOasisPath at brush deltas rep rule
     → KeepsCourse (halves_of brush) (path_points at deltas) rep rule
 keeps_path at brush deltas rep rule k = record { near = λ e. (k.near e).2; drawn = k.drawn; dimension = k.dimension }
 
 pub path_lowest : (at : Point) (brush : Brush) (deltas : Deltas) (rep : Option Rep) → IsBrush brush → AreNear (path_points at deltas) → (rule : ℕ)
-    → IsLowest (KeepsCourse (halves_of brush) (path_points at deltas) rep) rule → IsLowest (KeepsPath at brush deltas rep) rule
+    → IsLowest (KeepsCourse (halves_of brush) (path_points at deltas) rep) rule → IsLowest (KeepsOasisPath at brush deltas rep) rule
 path_lowest at brush deltas rep short near rule low = record {
   broken = λ kept. low.broken (keeps_path at brush deltas rep rule kept);
   lower = λ other less. path_keeps at brush deltas rep short near other (low.lower other less);

@@ -6,7 +6,7 @@ use Rattle.std.proofs.lemmas.List.Elements.{All-nil, All-cons, All-head, All-tai
 use Rattle.std.proofs.lemmas.Int.{ints}
 use Rattle.half_grid.specs.declared.plane.Point.{Point}
 use Rattle.layout_model.specs.Images.{moved, enlarged}
-use Rattle.oas_shapes.specs.Plane.{point, origin, doubled, places_along, IsNear, IsNearInHalves}
+use Rattle.oas_shapes.specs.Plane.{point, origin, doubled, places_along, IsNearInSteps, IsNearInHalves}
 use Rattle.oas_shapes.specs.PointLists.{added_up}
 use Rattle.oas_shapes.specs.Rules.{AreNear}
 use Rattle.oas_shapes.specs.Trails.{IsTrail}
@@ -14,12 +14,12 @@ use Rattle.oas_shapes.specs.declared.trails.Trail.{Trail}
 use Rattle.smallvec.specs.SmallVec.{SmallVec}
 use Rattle.oas_shapes.proofs.NearLemmas.{near_halves, halves_near, all_after, same_point}
 
-pub first_place : (p : Point) (moves : List Point) → AreNear (map doubled (places_along p moves)) → IsNear p
+pub first_place : (p : Point) (moves : List Point) → AreNear (map doubled (places_along p moves)) → IsNearInSteps p
 first_place p [] h = near_halves p (All-head IsNearInHalves (doubled p) [] h)
 first_place p (m ∷ moves) h = near_halves p (All-head IsNearInHalves (doubled p) (map doubled (places_along (moved p m) moves)) h)
 
 pub trail_far : (whole : List Point) (trail : Trail) (move : Point) (moves : List Point) → IsTrail whole trail (move ∷ moves)
-    → ¬ IsNear (moved trail.at move) → ¬ AreNear (map doubled whole)
+    → ¬ IsNearInSteps (moved trail.at move) → ¬ AreNear (map doubled whole)
 trail_far whole trail move moves t far near =
     let rest = map doubled (places_along (moved trail.at move) moves) in
     let all : AreNear (trail.listed.items ++ doubled trail.at ∷ rest) = subst AreNear (sym t.joined) near in
@@ -30,7 +30,7 @@ pub some_places : (p : Point) (moves : List Point) → map doubled (places_along
 some_places p [] e = absurd (cc)
 some_places p (m ∷ moves) e = absurd (cc)
 
-pub origin_near : IsNear origin
+pub origin_near : IsNearInSteps origin
 origin_near = record { x_low = omega (arith, ints); x_high = omega (arith, ints); y_low = omega (arith, ints); y_high = omega (arith, ints) }
 
 one_time : (z : ℤ) → pos 1 *ℤ z ≡ z
@@ -63,17 +63,17 @@ changes_on whole old new next move rest x y e t =
 
 -- ---- places that are gone over without a list
 
-pub stays_on : (at move : Point) (moves : List Point) → IsNear at
+pub stays_on : (at move : Point) (moves : List Point) → IsNearInSteps at
     → AreNear (map doubled (places_along (moved at move) moves)) ↔ AreNear (map doubled (places_along at (move ∷ moves)))
 stays_on at move moves near =
     let rest = map doubled (places_along (moved at move) moves) in
     (λ after. All-cons IsNearInHalves (doubled at) rest (halves_near at near) after, λ all. All-tail IsNearInHalves (doubled at) rest all)
 
-pub strays : (whole : List Point) (at move : Point) (moves : List Point) → IsNear at
-    → (AreNear (map doubled (places_along at (move ∷ moves))) ↔ AreNear whole) → ¬ IsNear (moved at move) → ¬ AreNear whole
+pub strays : (whole : List Point) (at move : Point) (moves : List Point) → IsNearInSteps at
+    → (AreNear (map doubled (places_along at (move ∷ moves))) ↔ AreNear whole) → ¬ IsNearInSteps (moved at move) → ¬ AreNear whole
 strays whole at move moves near same far all = far (first_place (moved at move) moves ((stays_on at move moves near).1 (same.1 all)))
 
-pub stayed : (whole : List Point) (at : Point) → IsNear at → (AreNear (map doubled (places_along at [])) ↔ AreNear whole) → AreNear whole
+pub stayed : (whole : List Point) (at : Point) → IsNearInSteps at → (AreNear (map doubled (places_along at [])) ↔ AreNear whole) → AreNear whole
 stayed whole at near same = same.0 (All-cons IsNearInHalves (doubled at) [] (halves_near at near) (All-nil IsNearInHalves))
 
 -- ---- how many places there are

@@ -8,7 +8,7 @@ use Rattle.half_grid.specs.Outlines.{last_of, IsClosed}
 use Rattle.half_grid.specs.declared.plane.Point.{Point}
 use Rattle.layout_model.specs.Images.{moved}
 use Rattle.oas_record.specs.declared.fields.Deltas.{Deltas}
-use Rattle.oas_shapes.specs.Plane.{point, origin, doubled, places_along, IsNear, IsNearInHalves}
+use Rattle.oas_shapes.specs.Plane.{point, origin, doubled, places_along, IsNearInSteps, IsNearInHalves}
 use Rattle.oas_shapes.specs.PointLists.{implied, added_up, moves_by}
 use Rattle.oas_shapes.specs.Outlines.{closed, outline_of, path_points, polygon_outline}
 use Rattle.oas_shapes.specs.Rules.{AreNear}
@@ -67,16 +67,16 @@ polygon_is at d = ring_along d.kind at (moves_by d.kind d.items)
 
 -- ---- near 0
 
-last_near : (p : Point) (ps : List Point) → All IsNear (p ∷ ps) → IsNear (last_of p ps)
-last_near p [] h = All-head IsNear p [] h
-last_near p (q ∷ ps) h = last_near q ps (All-tail IsNear p (q ∷ ps) h)
+last_near : (p : Point) (ps : List Point) → All IsNearInSteps (p ∷ ps) → IsNearInSteps (last_of p ps)
+last_near p [] h = All-head IsNearInSteps p [] h
+last_near p (q ∷ ps) h = last_near q ps (All-tail IsNearInSteps p (q ∷ ps) h)
 
-cases_near : (s t : Bool) (a b : Point) → IsNear a → IsNear b → All IsNear (cond s (a ∷ []) (cond t (b ∷ []) []))
-cases_near true t a b m n = All-cons IsNear a [] m (All-nil IsNear)
-cases_near false true a b m n = All-cons IsNear b [] n (All-nil IsNear)
-cases_near false false a b m n = All-nil IsNear
+cases_near : (s t : Bool) (a b : Point) → IsNearInSteps a → IsNearInSteps b → All IsNearInSteps (cond s (a ∷ []) (cond t (b ∷ []) []))
+cases_near true t a b m n = All-cons IsNearInSteps a [] m (All-nil IsNearInSteps)
+cases_near false true a b m n = All-cons IsNearInSteps b [] n (All-nil IsNearInSteps)
+cases_near false false a b m n = All-nil IsNearInSteps
 
-implied_near : (kind : ℕ) (f l : Point) → IsNear f → IsNear l → All IsNear (implied kind f l)
+implied_near : (kind : ℕ) (f l : Point) → IsNearInSteps f → IsNearInSteps l → All IsNearInSteps (implied kind f l)
 implied_near kind f l m n =
     cases_near (kind == 0) (kind == 1) (point f.x l.y) (point l.x f.y)
     (record { x_low = m.x_low; x_high = m.x_high; y_low = n.y_low; y_high = n.y_high })
@@ -99,8 +99,8 @@ ring_near kind p ps h =
     let all = halves_all (p ∷ ps) h in
     closed_near (map doubled ((p ∷ ps) ++ implied kind p (last_of p ps)))
     (all_halves ((p ∷ ps) ++ implied kind p (last_of p ps))
-    (All-append IsNear (p ∷ ps) (implied kind p (last_of p ps)) all
-    (implied_near kind p (last_of p ps) (All-head IsNear p ps all) (last_near p ps all))))
+    (All-append IsNearInSteps (p ∷ ps) (implied kind p (last_of p ps)) all
+    (implied_near kind p (last_of p ps) (All-head IsNearInSteps p ps all) (last_near p ps all))))
 
 near_ring : (kind : ℕ) (p : Point) (ps : List Point) → AreNear (outline_of ((p ∷ ps) ++ implied kind p (last_of p ps))) → AreNear (map doubled (p ∷ ps))
 near_ring kind p ps h =

@@ -3,7 +3,7 @@ use Rattle.std.specs.Prelude.{◌≡◌, ◌≢◌, ◌≤ℤ◌, ℕ, pos, fals
 use Rattle.std.specs.Ordering.{int_eq}
 use Rattle.half_grid.specs.Halves.{twice}
 use Rattle.half_grid.specs.declared.plane.Point.{Point}
-use Rattle.layout_model.specs.PathBounds.{IsNear}
+use Rattle.layout_model.specs.PathBounds.{IsNearOnPath}
 use Rattle.layout_model.specs.Paths.{IsDrawable, HasEmptyEnd, extended, drawn_path, drawn_along}
 use Rattle.layout_model.specs.declared.pair.Pair.{Pair}
 use Rattle.layout_model.specs.declared.shapes.Shape.{Shape}
@@ -24,9 +24,9 @@ halves_of b = record { half = half_of b; begin = twice b.start; end = twice b.en
 
 pub record AreHalves (b : Halves) : Type 0 where
   pub low : pos 0 ≤ℤ b.half
-  pub half : IsNear b.half
-  pub begin : IsNear b.begin
-  pub end : IsNear b.end
+  pub half : IsNearOnPath b.half
+  pub begin : IsNearOnPath b.begin
+  pub end : IsNearOnPath b.end
 
 abbrev pub IsDrawn : Halves → List Point → Type 0
 IsDrawn b points = b.half ≢ pos 0 → IsDrawable points b.half b.begin b.end

@@ -1,14 +1,14 @@
 -- ---- what is promised, in reading order
+pub mod Repetitions
+pub mod Rules
 pub mod Plane
 pub mod Figures
-pub mod PointLists
-pub mod Repetitions
 pub mod Outlines
-pub mod Rules
+pub mod PointLists
+-- ---- what is kept inside
 pub mod Short
 pub mod Sharing
 pub mod Moves
--- ---- what is kept inside
 pub mod Ways
 pub mod Sketches
 pub mod Trails

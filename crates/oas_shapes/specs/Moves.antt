@@ -4,7 +4,7 @@ use Rattle.half_grid.specs.Outlines.{HasGridEdges}
 use Rattle.half_grid.specs.declared.extent.Frame.{Frame}
 use Rattle.half_grid.specs.declared.plane.Point.{Point}
 use Rattle.oas_record.specs.declared.fields.Deltas.{Deltas}
-use Rattle.oas_shapes.specs.Plane.{point, doubled, IsNear}
+use Rattle.oas_shapes.specs.Plane.{point, doubled, IsNearInSteps}
 use Rattle.oas_shapes.specs.Outlines.{polygon_outline}
 use Rattle.oas_shapes.specs.Rules.{AreNear}
 use Rattle.oas_shapes.specs.declared.outlines.Made.{Made}
@@ -25,7 +25,7 @@ high_corner box = point box.x1 box.y1
 
 -- the outline of a long list at the position where it was made; it keeps all rules there
 pub record IsItsOutline (deltas : Deltas) (made : Made) : Type 0 where
-  pub at : IsNear made.at
+  pub at : IsNearInSteps made.at
   pub outline : made.outline ≡ polygon_outline made.at deltas
   pub near : AreNear made.outline
   pub edges : HasGridEdges made.outline

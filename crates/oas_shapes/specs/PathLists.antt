@@ -6,7 +6,7 @@ use Rattle.layout_model.specs.Paths.{IsCourse, segments_of}
 use Rattle.oas_record.specs.declared.fields.Deltas.{Deltas}
 use Rattle.oas_record.specs.declared.repetition.Rep.{Rep}
 use Rattle.oas_shapes.specs.Outlines.{path_points}
-use Rattle.oas_shapes.specs.Plane.{IsNear}
+use Rattle.oas_shapes.specs.Plane.{IsNearInSteps}
 use Rattle.oas_shapes.specs.Repetitions.{offsets_in, HasDimensionsIn}
 use Rattle.oas_shapes.specs.Rules.{AreNear}
 use Rattle.oas_shapes.specs.declared.path_lists.MadePath.{MadePath}
@@ -18,7 +18,7 @@ pub record IsPathOf (points : List Point) (path : List (Point × Point)) : Type 
 
 -- what is kept of a list at the position where it was made; the list is near 0 there
 pub record IsItsPath (deltas : Deltas) (made : MadePath) : Type 0 where
-  pub at : IsNear made.at
+  pub at : IsNearInSteps made.at
   pub near : AreNear (path_points made.at deltas)
   pub hull : IsLeastBoxOf (path_points made.at deltas) made.hull
   pub path : IfSome made.path (IsPathOf (path_points made.at deltas))

@@ -33,8 +33,8 @@ pub record IsLength (z : ℤ) : Type 0 where
   pub high : z ≤ℤ pos (2 ^ 40)
 
 -- a point at most 2^40 grid steps from 0
-abbrev pub IsNear : Point → Type 0
-IsNear p = IsWithin (2 ^ 40) p
+abbrev pub IsNearInSteps : Point → Type 0
+IsNearInSteps p = IsWithin (2 ^ 40) p
 
 -- the same of a point in half units
 abbrev pub IsNearInHalves : Point → Type 0

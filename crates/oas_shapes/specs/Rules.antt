@@ -52,7 +52,7 @@ abbrev pub IsPathDrawn : Point → Brush → Deltas → Type 0
 IsPathDrawn at brush deltas =
     half_of brush ≢ pos 0 → IsDrawable (path_points at deltas) (half_of brush) (twice brush.start) (twice brush.end)
 
-pub record KeepsPath (at : Point) (brush : Brush) (deltas : Deltas) (rep : Option Rep) (rule : ℕ) : Type 0 where
+pub record KeepsOasisPath (at : Point) (brush : Brush) (deltas : Deltas) (rep : Option Rep) (rule : ℕ) : Type 0 where
   pub near : rule ≡ 1 → IsBrush brush × AreNear (path_points at deltas) × AreNear (offsets_in rep)
   pub drawn : rule ≡ 8 → IsPathDrawn at brush deltas
   pub dimension : rule ≡ 11 → HasDimensionsIn rep

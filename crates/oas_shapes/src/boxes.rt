@@ -7,7 +7,7 @@ ghost use Rattle.layout_model.specs.Layouts.{IsShapeOnGrid};
 ghost use Rattle.layout_model.specs.Places.{origin};
 ghost use Rattle.oas_shapes.specs.Figures.{IsSize};
 ghost use Rattle.oas_shapes.specs.Outlines.{figure_outline, outline_shape};
-ghost use Rattle.oas_shapes.specs.Plane.{point, IsLength, IsNear};
+ghost use Rattle.oas_shapes.specs.Plane.{point, IsLength, IsNearInSteps};
 ghost use Rattle.oas_shapes.specs.Repetitions.{offsets_in};
 ghost use Rattle.oas_shapes.specs.Rules.{KeepsFigure, IsLowest};
 ghost use Rattle.oas_shapes.specs.declared.drawing.Undrawn.TheVariants.{Rule, NoMemory as Wanting};
@@ -51,11 +51,11 @@ impl Side {
 // The upper right corner of a rectangle at this position, if it is near 0.
 #[inline(always)]
 fn opposite(at: Point, width: u64, height: u64) -> Option<Point>
-    requires at { IsNear at }
+    requires at { IsNearInSteps at }
     requires width { IsSize width }
     requires height { IsSize height }
-    ensures some { IfSome result (λ p. (p ≡ place_after at (point (pos width) (pos height))) × IsNear p) }
-    ensures none { IfNone result (¬ IsNear (place_after at (point (pos width) (pos height)))) }
+    ensures some { IfSome result (λ p. (p ≡ place_after at (point (pos width) (pos height))) × IsNearInSteps p) }
+    ensures none { IfNone result (¬ IsNearInSteps (place_after at (point (pos width) (pos height)))) }
 {
     let across = Side {
         from: at.x,
@@ -102,7 +102,7 @@ pub fn draw_rectangle(
     height: u64,
     shapes: &mut Shapes,
 ) -> Result<(), Undrawn>
-    requires at { IsNear at }
+    requires at { IsNearInSteps at }
     ensures shapes { OnOk result (shapes.new ≡ shapes.old ++ outline_shape pair (figure_outline at (Rectangle width height)) (offsets_in Nothing) ∷ []) }
     ensures grid { All IsShapeOnGrid shapes.old → OnOk result (All IsShapeOnGrid shapes.new) }
     ensures kept { OnOk result ((rule : ℕ) → KeepsFigure at (Rectangle width height) Nothing rule) }

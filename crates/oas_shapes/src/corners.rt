@@ -1,7 +1,7 @@
 //! The corners of figures, and their outlines.
 ghost use Rattle.std.specs.Prelude.{◌≡◌, ◌↔◌, pos, neg_ℤ, ◌+ℤ◌, ◌-ℤ◌, map, [], ◌∷◌, IsTrue, IfSome, IfNone};
 ghost use Rattle.std.specs.Int.{int_min, int_max};
-ghost use Rattle.oas_shapes.specs.Plane.{IsNear, IsNearInHalves, doubled as in_halves};
+ghost use Rattle.oas_shapes.specs.Plane.{IsNearInSteps, IsNearInHalves, doubled as in_halves};
 ghost use Rattle.oas_shapes.specs.Ways.{way_of};
 ghost use Rattle.oas_shapes.specs.Figures.{coordinate as coordinate_of, corner as corner_of, horizontal_corners, vertical_corners, figure_corners, IsSize, IsSized};
 ghost use Rattle.oas_shapes.specs.Sketches.{marks_of, corners_of, points_of};
@@ -220,7 +220,7 @@ pub(crate) fn is_sized(figure: Figure) -> bool
 // A corner in half units, if it is near 0.
 #[inline(always)]
 fn placed(at: Point, corner: Wide) -> Option<Point>
-    requires { IsNear at }
+    requires { IsNearInSteps at }
     ensures some { IfSome result (λ p. (p ≡ in_halves (place_after at (way_of corner))) × IsNearInHalves p) }
     ensures none { IfNone result (¬ IsNearInHalves (in_halves (place_after at (way_of corner)))) }
 {
@@ -232,7 +232,7 @@ fn placed(at: Point, corner: Wide) -> Option<Point>
 
 #[inline(always)]
 fn three(at: Point, a: Wide, b: Wide, c: Wide) -> Option<Outline>
-    requires { IsNear at }
+    requires { IsNearInSteps at }
     ensures outline { IfSome result (λ o. points_of o ≡ outline_of (map (place_after at) (way_of a ∷ way_of b ∷ way_of c ∷ []))) }
     ensures near { IfSome result (λ o. AreNear (points_of o)) }
     ensures none { IfNone result (¬ AreNear (outline_of (map (place_after at) (way_of a ∷ way_of b ∷ way_of c ∷ [])))) }
@@ -251,7 +251,7 @@ fn three(at: Point, a: Wide, b: Wide, c: Wide) -> Option<Outline>
 
 #[inline(always)]
 fn four(at: Point, a: Wide, b: Wide, c: Wide, d: Wide) -> Option<Outline>
-    requires { IsNear at }
+    requires { IsNearInSteps at }
     ensures outline { IfSome result (λ o. points_of o ≡ outline_of (map (place_after at) (way_of a ∷ way_of b ∷ way_of c ∷ way_of d ∷ []))) }
     ensures near { IfSome result (λ o. AreNear (points_of o)) }
     ensures none { IfNone result (¬ AreNear (outline_of (map (place_after at) (way_of a ∷ way_of b ∷ way_of c ∷ way_of d ∷ [])))) }
@@ -274,7 +274,7 @@ fn four(at: Point, a: Wide, b: Wide, c: Wide, d: Wide) -> Option<Outline>
 // The outline of a ring at this position, if it is near 0.
 #[inline(always)]
 fn outline_of(at: Point, ring: Ring) -> Option<Outline>
-    requires { IsNear at }
+    requires { IsNearInSteps at }
     ensures outline { IfSome result (λ o. points_of o ≡ outline_of (map (place_after at) (corners_of ring))) }
     ensures near { IfSome result (λ o. AreNear (points_of o)) }
     ensures none { IfNone result (¬ AreNear (outline_of (map (place_after at) (corners_of ring)))) }
@@ -288,7 +288,7 @@ fn outline_of(at: Point, ring: Ring) -> Option<Outline>
 /// The outline of a figure at this position, if it is near 0.
 #[inline(always)]
 pub(crate) fn outline_at(at: Point, figure: Figure) -> Option<Outline>
-    requires { IsNear at }
+    requires { IsNearInSteps at }
     ensures outline { IfSome result (λ o. points_of o ≡ figure_outline at figure) }
     ensures near { IfSome result (λ o. AreNear (points_of o)) }
     ensures none { IfNone result (¬ AreNear (figure_outline at figure)) }

@@ -5,7 +5,7 @@ ghost use Rattle.layout_model.specs.Layouts.{IsShapeOnGrid, AreOffsets, IsWithin
 ghost use Rattle.oas_shapes.specs.Sketches.{points_of};
 ghost use Rattle.oas_shapes.specs.Outlines.{figure_outline, polygon_outline as the_polygon_outline, outline_shape, path_shapes_of};
 ghost use Rattle.oas_shapes.specs.Repetitions.{offsets_in as all_offsets};
-ghost use Rattle.oas_shapes.specs.Rules.{AreNear, KeepsShape, KeepsFigure, KeepsPolygon, KeepsPath, IsBrush, IsLowest};
+ghost use Rattle.oas_shapes.specs.Rules.{AreNear, KeepsShape, KeepsFigure, KeepsPolygon, KeepsOasisPath, IsBrush, IsLowest};
 ghost use Rattle.oas_shapes.specs.Short.{IsShortIn, HasFewPoints, HasFewVertices};
 ghost use Rattle.oas_shapes.specs.declared.drawing.Undrawn.TheVariants.{Rule, NoMemory as Wanting};
 
@@ -333,10 +333,10 @@ fn draw_course(
     requires brush { IsBrush brush }
     ensures shapes { OnOk result (shapes.new ≡ shapes.old ++ path_shapes_of pair at brush points.now (all_offsets (option_copied repetition.entry))) }
     ensures grid { All IsShapeOnGrid shapes.old → OnOk result (All IsShapeOnGrid shapes.new) }
-    ensures kept { OnOk result ((rule : ℕ) → KeepsPath at brush points.now (option_copied repetition.entry) rule) }
-    ensures broken { (rule : ℕ) → result ≡ Err (Rule rule) → IsLowest (KeepsPath at brush points.now (option_copied repetition.entry)) rule }
+    ensures kept { OnOk result ((rule : ℕ) → KeepsOasisPath at brush points.now (option_copied repetition.entry) rule) }
+    ensures broken { (rule : ℕ) → result ≡ Err (Rule rule) → IsLowest (KeepsOasisPath at brush points.now (option_copied repetition.entry)) rule }
     ensures memory { HasFewPoints points.now → IsShortIn (option_copied repetition.entry) → result ≡ Err Wanting
-        → (rule : ℕ) → KeepsPath at brush points.now (option_copied repetition.entry) rule }
+        → (rule : ℕ) → KeepsOasisPath at brush points.now (option_copied repetition.entry) rule }
 {
     match path_points(alloc, at, points) {
         Ok(places) => add_path(
@@ -368,10 +368,10 @@ pub fn draw_path(
     requires at { IsWithin (2 ^ 40) at }
     ensures shapes { OnOk result (shapes.new ≡ shapes.old ++ path_shapes_of pair at brush points.now (all_offsets (option_copied repetition.entry))) }
     ensures grid { All IsShapeOnGrid shapes.old → OnOk result (All IsShapeOnGrid shapes.new) }
-    ensures kept { OnOk result ((rule : ℕ) → KeepsPath at brush points.now (option_copied repetition.entry) rule) }
-    ensures broken { (rule : ℕ) → result ≡ Err (Rule rule) → IsLowest (KeepsPath at brush points.now (option_copied repetition.entry)) rule }
+    ensures kept { OnOk result ((rule : ℕ) → KeepsOasisPath at brush points.now (option_copied repetition.entry) rule) }
+    ensures broken { (rule : ℕ) → result ≡ Err (Rule rule) → IsLowest (KeepsOasisPath at brush points.now (option_copied repetition.entry)) rule }
     ensures memory { HasFewPoints points.now → IsShortIn (option_copied repetition.entry) → result ≡ Err Wanting
-        → (rule : ℕ) → KeepsPath at brush points.now (option_copied repetition.entry) rule }
+        → (rule : ℕ) → KeepsOasisPath at brush points.now (option_copied repetition.entry) rule }
 {
     if !brush.is_near() {
         return Err(Undrawn::Rule(1));

@@ -2,7 +2,7 @@
 ghost use Rattle.std.specs.Prelude.{◌≡◌, ◌↔◌, ◌-◌, ◌≤◌, map, All, IsTrue, IfOk, IfSome, IfNone, Err, false};
 ghost use Rattle.layout_model.specs.Images.{enlarged};
 ghost use Rattle.layout_model.specs.Layouts.{AreOffsets};
-ghost use Rattle.oas_shapes.specs.Plane.{IsNear, doubled as in_halves};
+ghost use Rattle.oas_shapes.specs.Plane.{IsNearInSteps, doubled as in_halves};
 ghost use Rattle.oas_shapes.specs.Lattices.{IsLattice, places_of};
 ghost use Rattle.oas_shapes.specs.Rules.{AreNear};
 ghost use Rattle.oas_shapes.specs.Ways.{way_of};
@@ -26,8 +26,8 @@ pub(crate) struct Lattice {
 // The last of so many places in a row, if it is near 0.
 fn last(count: u64, step: Wide) -> Option<Point>
     requires { 1 ≤ count }
-    ensures some { IfSome result (λ p. (p ≡ enlarged (count - 1) (way_of step)) × IsNear p) }
-    ensures none { IfNone result (¬ IsNear (enlarged (count - 1) (way_of step))) }
+    ensures some { IfSome result (λ p. (p ≡ enlarged (count - 1) (way_of step)) × IsNearInSteps p) }
+    ensures none { IfNone result (¬ IsNearInSteps (enlarged (count - 1) (way_of step))) }
 {
     match times(count - 1, step) {
         Some(way) => moved(ORIGIN, way),
@@ -37,7 +37,7 @@ fn last(count: u64, step: Wide) -> Option<Point>
 
 // A short move in half units.
 fn short(way: Wide) -> Point
-    requires { IsNear (way_of way) }
+    requires { IsNearInSteps (way_of way) }
     ensures { result ≡ in_halves (way_of way) }
 {
     doubled(Point {
@@ -49,7 +49,7 @@ fn short(way: Wide) -> Point
 impl Lattice {
     // Whether all its places are near 0: its four corners are, of which one is the origin.
     fn is_near(self) -> bool
-        ensures { IsTrue result ↔ All IsNear (places_of self) }
+        ensures { IsTrue result ↔ All IsNearInSteps (places_of self) }
     {
         if self.nu == 0 || self.nv == 0 {
             return true;
@@ -69,7 +69,7 @@ impl Lattice {
     // Its places in half units.
     fn grid(self, alloc: Global) -> Result<Offsets, Unplaced>
         requires fits { IsLattice self }
-        requires near { All IsNear (places_of self) }
+        requires near { All IsNearInSteps (places_of self) }
         ensures ok { IfOk result (λ offsets. (offsets ≡ map in_halves (places_of self)) × AreOffsets offsets) }
         ensures far { (result ≡ Err Far) → ⊥ }
         ensures many { (result ≡ Err Many) → ⊥ }

@@ -1,6 +1,6 @@
 //! The places of point lists.
 ghost use Rattle.std.specs.Prelude.{◌≡◌, ◌≢◌, ◌≤◌, ◌<◌, ◌++◌, [], ◌∷◌, length, IsOk, IsOkAnd, OnOk, IfOk, IfErr, Err};
-ghost use Rattle.oas_shapes.specs.Plane.{IsNear};
+ghost use Rattle.oas_shapes.specs.Plane.{IsNearInSteps};
 ghost use Rattle.oas_shapes.specs.PointLists.{implied};
 ghost use Rattle.oas_shapes.specs.Outlines.{path_points as the_path_points, polygon_outline as the_polygon_outline};
 ghost use Rattle.oas_shapes.specs.Rules.{AreNear};
@@ -15,7 +15,7 @@ use std::alloc::Global;
 
 /// The points of a path from this position, in half units.
 pub(crate) fn path_points(alloc: Global, at: Point, points: &Deltas<'_>) -> Result<Places, Unplaced>
-    requires { IsNear at }
+    requires { IsNearInSteps at }
     ensures places { IfOk result (λ places. places.items ≡ the_path_points at points.now) }
     ensures near { IfOk result (λ places. AreNear places.items) }
     ensures far { result ≡ Err Far → ¬ AreNear (the_path_points at points.now) }
@@ -103,7 +103,7 @@ pub(crate) fn polygon_outline(
     at: Point,
     points: &Deltas<'_>,
 ) -> Result<Places, Unplaced>
-    requires { IsNear at }
+    requires { IsNearInSteps at }
     ensures outline { IfOk result (λ outline. outline.items ≡ the_polygon_outline at points.now) }
     ensures near { IfOk result (λ outline. AreNear outline.items) }
     ensures far { result ≡ Err Far → ¬ AreNear (the_polygon_outline at points.now) }

@@ -3,7 +3,7 @@ ghost use Rattle.std.specs.Prelude.{◌≡◌, ◌≤◌, ◌^◌, ◌↔◌, po
 ghost use Rattle.half_grid.specs.Halves.{twice};
 ghost use Rattle.layout_model.specs.Images.{moved as place_after};
 ghost use Rattle.layout_model.specs.Layouts.{IsWithin};
-ghost use Rattle.oas_shapes.specs.Plane.{IsNear, IsNearInHalves};
+ghost use Rattle.oas_shapes.specs.Plane.{IsNearInSteps, IsNearInHalves};
 ghost use Rattle.oas_shapes.specs.Moves.{way_between, low_corner, high_corner, IsItsOutline};
 ghost use Rattle.oas_shapes.specs.Rules.{AreNear};
 ghost use Rattle.oas_shapes.specs.declared.trails.Unplaced.TheVariants.{Far};
@@ -74,8 +74,8 @@ impl Step {
 
 /// From one place in grid steps to another, in half units.
 pub(crate) fn way(from: Point, to: Point) -> Point
-    requires from { IsNear from }
-    requires to { IsNear to }
+    requires from { IsNearInSteps from }
+    requires to { IsNearInSteps to }
     ensures { result ≡ way_between from to }
 {
     let across = Step {
@@ -146,9 +146,9 @@ pub(crate) fn is_near(p: Point) -> bool
 impl Made {
     /// The outline at this position, in constant time: its points are shared.
     pub(crate) fn at(&self, at: Point) -> Result<Points, Unplaced>
-        requires here { IsNear self.now.at }
+        requires here { IsNearInSteps self.now.at }
         requires near { AreNear self.now.outline }
-        requires there { IsNear at }
+        requires there { IsNearInSteps at }
         ensures outline { IfOk result (λ outline. outline ≡ map (place_after (way_between self.now.at at)) self.now.outline) }
         ensures near { IfOk result AreNear }
         ensures far { result ≡ Err Far → ¬ AreNear (map (place_after (way_between self.now.at at)) self.now.outline) }
@@ -170,7 +170,7 @@ impl Made {
 
 // The outline of a long list at this position, where it is near 0 and on the grid, and where memory is there.
 fn made_at(alloc: Global, at: Point, written: &Deltas<'_>) -> Option<Made>
-    requires near { IsNear at }
+    requires near { IsNearInSteps at }
     requires long { 10 ≤ length written.now.items }
     ensures { IfSome result (IsItsOutline written.now) }
 {

@@ -2,7 +2,7 @@
 ghost use Rattle.std.specs.Prelude.{◌≡◌, ◌^◌, Some, IfSome};
 ghost use Rattle.layout_model.specs.Images.{moved as place_after};
 ghost use Rattle.layout_model.specs.Layouts.{IsWithin};
-ghost use Rattle.oas_shapes.specs.Plane.{IsNear, IsNearInHalves};
+ghost use Rattle.oas_shapes.specs.Plane.{IsNearInSteps, IsNearInHalves};
 ghost use Rattle.oas_shapes.specs.Brushes.{IsNotCutShort};
 ghost use Rattle.oas_shapes.specs.Moves.{way_between, low_corner, high_corner};
 ghost use Rattle.oas_shapes.specs.PathLists.{IsItsPath};
@@ -52,10 +52,10 @@ impl<'f> Model for PathList<'f> {
 impl MadePath {
     /// How it gets to this position, where its points are near 0 there.
     pub(crate) fn way_to(&self, at: Point) -> Option<Point>
-        requires here { IsNear self.now.at }
+        requires here { IsNearInSteps self.now.at }
         requires low { IsNearInHalves (low_corner self.now.hull) }
         requires high { IsNearInHalves (high_corner self.now.hull) }
-        requires there { IsNear at }
+        requires there { IsNearInSteps at }
         ensures way { IfSome result (λ by. by ≡ way_between self.now.at at) }
         ensures low { IfSome result (λ by. IsNearInHalves (place_after by (low_corner self.now.hull))) }
         ensures high { IfSome result (λ by. IsNearInHalves (place_after by (high_corner self.now.hull))) }
@@ -87,7 +87,7 @@ impl MadePath {
 
 // What is kept of a list at this position, where it is near 0 there, and where memory is there.
 fn made_path(alloc: Global, at: Point, written: &Deltas<'_>) -> Option<MadePath>
-    requires near { IsNear at }
+    requires near { IsNearInSteps at }
     ensures { IfSome result (IsItsPath written.now) }
 {
     let Ok(points) = path_points(alloc, at, written) else {

@@ -2,7 +2,7 @@
 ghost use Rattle.std.specs.Prelude.{◌≡◌, ◌⊎◌, ◌↔◌, ◌++◌, ℕ, pos, ◌≤ℤ◌, All, map, false, IsTrue, OnOk, IfOk, Err, option_copied};
 ghost use Rattle.half_grid.specs.Halves.{twice};
 ghost use Rattle.layout_model.specs.Layouts.{IsShapeOnGrid, AreOffsets};
-ghost use Rattle.layout_model.specs.PathBounds.{IsNear as IsNearInHalves};
+ghost use Rattle.layout_model.specs.PathBounds.{IsNearOnPath as IsNearInHalves};
 ghost use Rattle.layout_model.specs.Segments.{moved_segment, AreNearAfter};
 ghost use Rattle.oas_shapes.specs.Plane.{IsLength};
 ghost use Rattle.oas_shapes.specs.Brushes.{halves_of, lengths_of, AreHalves, IsDrawn, drawn_by, along_by, undrawn_by, KeepsCourse};

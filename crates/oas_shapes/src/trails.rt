@@ -2,7 +2,7 @@
 ghost use Rattle.std.specs.Prelude.{◌≡◌, ◌<◌, ◌≤◌, ◌↔◌, ◌-ℤ◌, List, [], ◌∷◌, length, map, IsTrue, IsOk, OnOk, IfOk, IfErr, IfSome, IfNone, Err};
 ghost use Rattle.half_grid.specs.declared.plane.Point.{Point as APoint};
 ghost use Rattle.layout_model.specs.Images.{enlarged, moved as place_after};
-ghost use Rattle.oas_shapes.specs.Plane.{IsNear, east, north, origin, doubled as in_halves, places_along};
+ghost use Rattle.oas_shapes.specs.Plane.{IsNearInSteps, east, north, origin, doubled as in_halves, places_along};
 ghost use Rattle.oas_shapes.specs.PointLists.{added_up};
 ghost use Rattle.oas_shapes.specs.Rules.{AreNear};
 ghost use Rattle.oas_shapes.specs.Trails.{IsTrail};
@@ -43,7 +43,7 @@ struct Trail {
 
 impl Trail {
     fn new(alloc: Global, start: Point) -> Trail
-        requires { IsNear start }
+        requires { IsNearInSteps start }
         ensures { (moves : List APoint) → IsTrail (places_along start moves) result moves }
     {
         Trail {
@@ -54,7 +54,7 @@ impl Trail {
 
     // On to the next place.
     fn go(&mut self, way: Wide) -> Result<(), Unplaced>
-        requires { IsNear self.old.at }
+        requires { IsNearInSteps self.old.at }
         ensures on { (whole moves : List APoint) → IsTrail whole self.old (way_of way ∷ moves) → OnOk result (IsTrail whole self.new moves) }
         ensures at { OnOk result (self.new.at ≡ place_after self.old.at (way_of way)) }
         ensures far { (whole moves : List APoint) → IsTrail whole self.old (way_of way ∷ moves) → result ≡ Err Far → ¬ AreNear (map in_halves whole) }
@@ -74,7 +74,7 @@ impl Trail {
 
     // All places.
     fn finish(self) -> Result<Places, Unplaced>
-        requires { IsNear self.at }
+        requires { IsNearInSteps self.at }
         ensures places { (whole : List APoint) → IsTrail whole self [] → IfOk result (λ places. places.items ≡ map in_halves whole) }
         ensures near { (whole : List APoint) → IsTrail whole self [] → AreNear (map in_halves whole) }
         ensures far { (result ≡ Err Far) → ⊥ }
@@ -91,7 +91,7 @@ impl Trail {
 
 /// The places along these moves. Up to twelve places take no memory.
 pub(crate) fn along(alloc: Global, start: Point, moves: &Moves<'_>) -> Result<Places, Unplaced>
-    requires { IsNear start }
+    requires { IsNearInSteps start }
     ensures places { IfOk result (λ places. places.items ≡ map in_halves (places_along start moves.now)) }
     ensures near { IfOk result (λ places. AreNear places.items) }
     ensures far { result ≡ Err Far → ¬ AreNear (map in_halves (places_along start moves.now)) }
@@ -115,7 +115,7 @@ pub(crate) fn along_changes(
     start: Point,
     changes: &Moves<'_>,
 ) -> Result<Places, Unplaced>
-    requires { IsNear start }
+    requires { IsNearInSteps start }
     ensures places { IfOk result (λ places. places.items ≡ map in_halves (places_along start (added_up origin changes.now))) }
     ensures near { IfOk result (λ places. AreNear places.items) }
     ensures far { result ≡ Err Far → ¬ AreNear (map in_halves (places_along start (added_up origin changes.now))) }
@@ -217,9 +217,9 @@ pub(crate) fn spaces_stay_near(is_upright: bool, grid: u64, spaces: &Numbers<'_>
 
 // The place after this move, times the grid, if it is near 0.
 fn place_by(at: Point, grid: u64, way: Wide) -> Option<Point>
-    requires { IsNear at }
-    ensures some { IfSome result (λ next. (next ≡ place_after at (enlarged grid (way_of way))) × IsNear next) }
-    ensures none { IfNone result (¬ IsNear (place_after at (enlarged grid (way_of way)))) }
+    requires { IsNearInSteps at }
+    ensures some { IfSome result (λ next. (next ≡ place_after at (enlarged grid (way_of way))) × IsNearInSteps next) }
+    ensures none { IfNone result (¬ IsNearInSteps (place_after at (enlarged grid (way_of way)))) }
 {
     match times(grid, way) {
         Some(way) => moved(at, way),
@@ -241,8 +241,8 @@ pub(crate) fn towards(is_upright: bool, space: u64) -> Wide
 
 // The move from one place to another.
 fn way_between(from: Point, to: Point) -> Point
-    requires from { IsNear from }
-    requires to { IsNear to }
+    requires from { IsNearInSteps from }
+    requires to { IsNearInSteps to }
     ensures x { result.x ≡ to.x -ℤ from.x }
     ensures y { result.y ≡ to.y -ℤ from.y }
 {

@@ -2,7 +2,7 @@
 ghost use Rattle.std.specs.Prelude.{◌≡◌, pos, ◌+ℤ◌, ◌*ℤ◌, IfSome, IfNone};
 ghost use Rattle.half_grid.specs.declared.plane.Point.{Point as APoint};
 ghost use Rattle.layout_model.specs.Images.{moved as place_after, enlarged};
-ghost use Rattle.oas_shapes.specs.Plane.{IsLength, IsNear, doubled as in_halves};
+ghost use Rattle.oas_shapes.specs.Plane.{IsLength, IsNearInSteps, doubled as in_halves};
 ghost use Rattle.oas_shapes.specs.Ways.{way_of};
 
 use half_grid::Point;
@@ -50,9 +50,9 @@ impl Leg {
 /// The place that a move leads to, if it is near 0.
 #[inline(always)]
 pub(crate) fn moved(from: Point, way: Wide) -> Option<Point>
-    requires { IsNear from }
-    ensures some { IfSome result (λ to. (to ≡ place_after from (way_of way)) × IsNear to) }
-    ensures none { IfNone result (¬ IsNear (place_after from (way_of way))) }
+    requires { IsNearInSteps from }
+    ensures some { IfSome result (λ to. (to ≡ place_after from (way_of way)) × IsNearInSteps to) }
+    ensures none { IfNone result (¬ IsNearInSteps (place_after from (way_of way))) }
 {
     let across = Leg {
         from: from.x,
@@ -74,7 +74,7 @@ pub(crate) fn moved(from: Point, way: Wide) -> Option<Point>
 /// So many moves together. None where that leads away from any place near 0 to one that isn't.
 pub(crate) fn times(count: u64, way: Wide) -> Option<Wide>
     ensures some { IfSome result (λ all. way_of all ≡ enlarged count (way_of way)) }
-    ensures none { IfNone result ((from : APoint) → IsNear from → ¬ IsNear (place_after from (enlarged count (way_of way)))) }
+    ensures none { IfNone result ((from : APoint) → IsNearInSteps from → ¬ IsNearInSteps (place_after from (enlarged count (way_of way)))) }
 {
     let count = i128::from(count);
     match count.checked_mul(way.x) {
@@ -89,7 +89,7 @@ pub(crate) fn times(count: u64, way: Wide) -> Option<Wide>
 /// A point near 0, in half units.
 #[inline(always)]
 pub(crate) fn doubled(point: Point) -> Point
-    requires { IsNear point }
+    requires { IsNearInSteps point }
     ensures { result ≡ in_halves point }
 {
     Point {

@@ -1,6 +1,7 @@
 -- ---- what is promised, in reading order
-pub mod SweptLists
 pub mod Lowest
+-- ---- what is kept inside
+pub mod SweptLists
 pub mod PlaneSweeps
 pub mod Sources
 pub mod Sweeps
@@ -8,7 +9,6 @@ pub mod Settled
 pub mod StopSettles
 pub mod Stops
 pub mod RowSweeps
--- ---- what is kept inside
 pub mod PackedEvents
 pub mod PackedSpots
 pub mod Bundles

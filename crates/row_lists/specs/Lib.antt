@@ -1,4 +1,4 @@
--- ---- what is promised, in reading order
+-- ---- what is kept inside
 pub mod Weights
 pub mod RowLists
 pub mod RowRuns

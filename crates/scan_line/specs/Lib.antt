@@ -1,4 +1,4 @@
--- ---- what is promised, in reading order
+-- ---- what is kept inside
 pub mod Rules
 pub mod Stops
 pub mod Runs
@@ -9,7 +9,6 @@ pub mod OutlineLaws
 pub mod ClippedEdges
 pub mod ClippedLaws
 pub mod Scans
--- ---- what is kept inside
 pub mod Turns
 pub mod Windings
 pub mod Starts

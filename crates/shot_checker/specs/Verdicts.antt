@@ -35,7 +35,7 @@ pub record IsLowestMiscovered (shots area : List Trapezoid) (window : RowRange) 
   pub first : (u : Tile) → IsMiscovered shots area window u → ComesNoLater t u
 
 -- the tile, in how many shots it is, and in how many it should be
-pub record IsFirstFault (shots area : List Trapezoid) (window : RowRange) (t : Tile) (count wanted : ℕ) : Type 0 where
+pub record IsFirstWrongTileInRows (shots area : List Trapezoid) (window : RowRange) (t : Tile) (count wanted : ℕ) : Type 0 where
   pub tile : IsLowestMiscovered shots area window t
   pub count_is : count ≡ count_in shots t
   pub wanted_is : wanted ≡ count_in area t
@@ -51,4 +51,4 @@ pub record IsExact (shots area : List Trapezoid) (window : RowRange) (limits : L
 -- all shots fit, and this is the first fault of what they cover
 pub record IsMiscover (shots area : List Trapezoid) (window : RowRange) (limits : Limits) (t : Tile) (count wanted : ℕ) : Type 0 where
   pub fit : All (Fits limits) shots
-  pub fault : IsFirstFault shots area window t count wanted
+  pub fault : IsFirstWrongTileInRows shots area window t count wanted

@@ -2,7 +2,7 @@ ghost use Rattle.std.specs.Prelude.{◌≡◌, ◌↔◌, ℕ, ℤ, pos, ◌≤�
 ghost use Rattle.std.specs.Ordering.{int_eq};
 ghost use Rattle.half_grid.specs.declared.plane.Tile.{Tile};
 ghost use Rattle.shot_checker.specs.Counts.{IsCount, HasCounts};
-ghost use Rattle.shot_checker.specs.Verdicts.{IsFirstTooLarge, IsFirstFault, CoversAlike, IsExact, IsMiscover};
+ghost use Rattle.shot_checker.specs.Verdicts.{IsFirstTooLarge, IsFirstWrongTileInRows, CoversAlike, IsExact, IsMiscover};
 ghost use Rattle.shot_checker.specs.declared.verdicts.Verdict.TheVariants.{Exact, Miscovered, TooLarge};
 
 use crate::limits::too_large;
@@ -79,7 +79,7 @@ pub fn first_fault(
     area: &[Trap],
     window: Window,
 ) -> Result<Option<Fault>, NoMemory>
-    ensures fault { IfOk result (λ answer. IfSome answer (λ fault. IsFirstFault shots.now area.now window fault.tile fault.count fault.wanted)) }
+    ensures fault { IfOk result (λ answer. IfSome answer (λ fault. IsFirstWrongTileInRows shots.now area.now window fault.tile fault.count fault.wanted)) }
     ensures none { IfOk result (λ answer. IfNone answer (CoversAlike shots.now area.now window)) }
 {
     match first_difference(alloc, shots, area, window)? {

@@ -13,8 +13,8 @@ use Rattle.deck_text.specs.declared.deck.Step.TheVariants.{Layer, Or, And, Sub, 
 use Rattle.deck_text.specs.declared.deck.Output.{Output}
 use Rattle.deck_text.specs.declared.deck.Deck.{Deck}
 use Rattle.deck_plan.specs.Areas.{IsInStep, area_over, IsInArea, IsInOutput}
-use Rattle.deck_plan.specs.Plans.{Planned}
-use Rattle.shot_output.specs.Files.{area_of, text_of}
+use Rattle.deck_plan.specs.Plans.{Planned, planned_area}
+use Rattle.shot_output.specs.Files.{text_of}
 use Rattle.shot_output.specs.Laws.{HaveSameLayers, SameLayersSameFiles, with_rows, BandsCoverTheSame}
 use Rattle.shot_output.proofs.LawLemmas.{one_shot_list, shots_cover}
 
@@ -122,6 +122,6 @@ one_count area other t xs ys same c d =
 pub bands_cover_the_same : BandsCoverTheSame
 bands_cover_the_same p rows k xs ys h g s z t =
     let e : Deck = record p.deck { band = rows } in
-    one_count (area_of p k) (area_of (with_rows p rows) k) t xs ys
+    one_count (planned_area p k) (planned_area (with_rows p rows) k) t xs ys
     (output_same p.cells p.top p.cells p.top p.deck e refl refl (λ n pair u is. (λ x. x, λ x. x)) refl k t)
     (shots_cover p k xs h s) (shots_cover (with_rows p rows) k ys g z)

@@ -14,7 +14,7 @@ use Rattle.fracture.specs.Cutting.{cut_list, shots_of}
 use Rattle.fracture.specs.Economy.{HasNoNeedlessCut}
 use Rattle.fracture.proofs.ForCallers.{same_tiles_of_list, list_of_shots, list_fits, joined_needless, shots_in_window, EndsBy, BeginsAt, needless_append}
 use Rattle.deck_plan.specs.Bands.{band}
-use Rattle.shot_output.specs.ShotLists.{Rules, IsInPart, IsBandList, AreBandLists, IsShotListBelow, IsShotList}
+use Rattle.shot_output.specs.ShotLists.{Rules, IsAreaInRows, IsBandList, AreBandLists, IsShotListBelow, IsShotList}
 use Rattle.deck_plan.proofs.ForCallers.{multiples}
 
 pub count_in-append : (xs ys : List Trapezoid) (t : Tile) → count_in (xs ++ ys) t ≡ count_in xs t + count_in ys t
@@ -45,7 +45,7 @@ module _ (rows : ℤ) (some : pos 0 <ℤ rows) (area : Tile → Type 0) where
 
   -- the tiles of the area in the rows of the bands, each once
   pub bands_cover : (k : ℤ) (lists : List (List Trapezoid)) → AreBandLists rows area k lists
-      → CoversExactly (end_to_end lists) (IsInPart area (rows_of k (length lists)))
+      → CoversExactly (end_to_end lists) (IsAreaInRows area (rows_of k (length lists)))
   bands_cover k [] b = record {
     once = λ t h. absurd (omega (arith, ints, no_bands k, h.rows.from, h.rows.below));
     never = λ t out. refl;

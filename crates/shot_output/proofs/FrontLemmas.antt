@@ -16,7 +16,7 @@ use Rattle.half_grid.proofs.ForCallers.{one_joined_list, same_tiles}
 use Rattle.bool_ops.specs.Operations.{IsInRows}
 use Rattle.fracture.specs.Cutting.{cut_list, shots_of}
 use Rattle.deck_plan.specs.Bands.{band}
-use Rattle.shot_output.specs.ShotLists.{Rules, IsInPart, IsBandList, AreBandLists, IsShotListBelow, IsShotList}
+use Rattle.shot_output.specs.ShotLists.{Rules, IsAreaInRows, IsBandList, AreBandLists, IsShotListBelow, IsShotList}
 use Rattle.deck_plan.proofs.ForCallers.{multiples}
 use Rattle.shot_output.proofs.Gaps.{gap_is}
 
@@ -63,7 +63,7 @@ module _ (rows : ℤ) (some : pos 0 <ℤ rows) (area : Tile → Type 0) where
 
   one_band : (k : ℤ) (xs ys : List Trapezoid) → IsBandList rows area k xs → IsBandList rows area k ys → xs ≡ ys
   one_band k xs ys p q =
-      one_joined_list (band rows k) xs ys p.joined.joined q.joined.joined (same_tiles (IsInPart area (band rows k)) xs ys p.joined.covers q.joined.covers)
+      one_joined_list (band rows k) xs ys p.joined.joined q.joined.joined (same_tiles (IsAreaInRows area (band rows k)) xs ys p.joined.covers q.joined.covers)
 
   -- empty bands below
   pad : (n : ℕ) (k : ℤ) (lists : List (List Trapezoid)) → ((t : Tile) → area t → (k *ℤ rows) ≤ℤ t.j)

@@ -12,7 +12,7 @@ use Rattle.deck_text.specs.Sound.{AreDistinct}
 use Rattle.deck_text.specs.declared.deck.Output.{Output}
 use Rattle.deck_plan.specs.Plans.{Planned}
 use Rattle.shot_writer.specs.declared.parts.Sums.{Sums}
-use Rattle.shot_output.specs.Files.{text_of, IsWritten, IsTextOf, IsCutShort, IsWhole, IsNoFileOf, AreWritten, IsPartOf, AreCutShort}
+use Rattle.shot_output.specs.Files.{text_of, IsWritten, IsTextOf, IsOutputCutShort, IsWholeOutput, IsNoFileOf, AreWritten, IsPartOf, AreCutShort}
 
 -- ---- places in lists
 
@@ -94,7 +94,7 @@ module _ (p : Planned) (distinct : AreDistinct (map file_of p.deck.outputs)) (te
   -- what is whole stays so while a later output is written
   still_whole : (i n : ℕ) (output : Output) (c now : Content) (sums : Sums) (bytes : List ℕ) → i < n
       → slice_get p.deck.outputs n ≡ Some output → (IsTrue tells → IsPartMade c output.file bytes now)
-      → IsWhole p i tells c sums → IsWhole p i tells now sums
+      → IsWholeOutput p i tells c sums → IsWholeOutput p i tells now sums
   still_whole i n output c now sums bytes less there part w = record {
     shots = w.shots;
     list = w.list;
@@ -129,7 +129,7 @@ module _ (p : Planned) (distinct : AreDistinct (map file_of p.deck.outputs)) (te
           };
         }
       where
-        one_of : (k : ℕ) → k < suc n → (b : Bool) → nat_lt k n ≡ b → (s : Sums) × (slice_get (sums ++ of ∷ []) k ≡ Some s) × IsWhole p k tells now s
+        one_of : (k : ℕ) → k < suc n → (b : Bool) → nat_lt k n ≡ b → (s : Sums) × (slice_get (sums ++ of ∷ []) k ≡ Some s) × IsWholeOutput p k tells now s
         one_of k below true e =
             let at = there_is p.deck.outputs n less in
             let text = text_of p.deck at.0 w.shots in
@@ -143,7 +143,7 @@ module _ (p : Planned) (distinct : AreDistinct (map file_of p.deck.outputs)) (te
             let last : k ≡ n = grind (arith, nat_tests, e, below) in (
               of,
               subst (λ (m : ℕ). slice_get (sums ++ of ∷ []) m ≡ Some of) (sym last) (get_last sums of n written.count),
-              subst (λ (m : ℕ). IsWhole p m tells now of) (sym last) (record {
+              subst (λ (m : ℕ). IsWholeOutput p m tells now of) (sym last) (record {
                 shots = w.shots;
                 list = w.list;
                 holds = λ output there told. ap (λ (x : Content). get x.made output.file) (w.content output there told)
@@ -153,7 +153,7 @@ module _ (p : Planned) (distinct : AreDistinct (map file_of p.deck.outputs)) (te
             )
 
     -- the writing of the next output was cut short
-    pub written_cut : (now : Content) → n < length p.deck.outputs → (IsTrue tells → IsCutShort p n c now) → AreCutShort p tells c₀ now
+    pub written_cut : (now : Content) → n < length p.deck.outputs → (IsTrue tells → IsOutputCutShort p n c now) → AreCutShort p tells c₀ now
     written_cut now less cut =
         let at = there_is p.deck.outputs n less in
         record {
@@ -169,7 +169,7 @@ module _ (p : Planned) (distinct : AreDistinct (map file_of p.deck.outputs)) (te
           };
         }
       where
-        whole_still : (i : ℕ) → i < n → (s : Sums) → IsWhole p i tells c s → IsWhole p i tells now s
+        whole_still : (i : ℕ) → i < n → (s : Sums) → IsWholeOutput p i tells c s → IsWholeOutput p i tells now s
         whole_still i before s w = record {
           shots = w.shots;
           list = w.list;

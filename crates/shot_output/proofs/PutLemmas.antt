@@ -19,13 +19,13 @@ use Rattle.layout_model.specs.declared.pair.Pair.{Pair}
 use Rattle.oas_lex.specs.ShotText.{spelling_of}
 use Rattle.deck_text.specs.declared.deck.Deck.{Deck}
 use Rattle.deck_plan.specs.Needs.{IsBand, IsAskedBand}
-use Rattle.deck_plan.specs.Plans.{Planned, IsBandOf}
+use Rattle.deck_plan.specs.Plans.{Planned, IsBandOf, planned_area}
 use Rattle.fracture.specs.Cutting.{cut_list, shots_of}
 use Rattle.shot_writer.specs.Writing.{AreSumsAfter, no_sums, records_of, triangles_in}
 use Rattle.shot_writer.specs.declared.parts.Sums.{Sums}
 use Rattle.deck_plan.specs.Bands.{band, AreRowsNear}
 use Rattle.shot_output.specs.ShotLists.{IsBandList, AreBandLists, IsShotListBelow}
-use Rattle.shot_output.specs.Files.{rules_of, area_of, IsListOf}
+use Rattle.shot_output.specs.Files.{rules_of, IsListOf}
 use Rattle.shot_output.specs.Laws.{HasRules}
 use Rattle.shot_output.specs.Bands.{HasRows, band_shots, HasRoomFor, IsBandPut, IsBandPart, IsPutBelow, IsPut, IsPutPart}
 use Rattle.deck_plan.proofs.ForCallers.{next_bottom, bottom_is, rem_low}
@@ -50,7 +50,7 @@ at_most_once area zs cover t = at_most_by area zs cover t _ refl
 
 -- no shots, where the rows of the area begin at the band or above it
 none_below : (p : Planned) (k : ℕ) (m : ℤ) (rows : RowRange) → (m *ℤ p.deck.band) ≤ℤ rows.y0 → HasRows p k rows
-    → IsShotListBelow (rules_of p.deck) (area_of p k) m []
+    → IsShotListBelow (rules_of p.deck) (planned_area p k) m []
 none_below p k m rows low outside = record {
   first = m;
   lists = [];
@@ -63,7 +63,7 @@ none_below p k m rows low outside = record {
 -- ---- one more band
 
 module _ (p : Planned) (k : ℕ) where
-  band_list : (m : ℤ) (traps : List Trapezoid) → IsBandOf p k (band p.deck.band m) traps → IsBandList p.deck.band (area_of p k) m traps
+  band_list : (m : ℤ) (traps : List Trapezoid) → IsBandOf p k (band p.deck.band m) traps → IsBandList p.deck.band (planned_area p k) m traps
   band_list m traps b = record {
     shots = b.shots;
     joined = record {
@@ -76,24 +76,24 @@ module _ (p : Planned) (k : ℕ) where
   }
 
   lists_push : (m : ℤ) (lists : List (List Trapezoid)) (traps : List Trapezoid)
-      → AreBandLists p.deck.band (area_of p k) m lists
-      → IsBandList p.deck.band (area_of p k) (m +ℤ pos (length lists)) traps
-      → AreBandLists p.deck.band (area_of p k) m (lists ++ traps ∷ [])
-  lists_push m [] traps b c = (subst (λ (n : ℤ). IsBandList p.deck.band (area_of p k) n traps) (omega (arith, ints)) c, tt)
+      → AreBandLists p.deck.band (planned_area p k) m lists
+      → IsBandList p.deck.band (planned_area p k) (m +ℤ pos (length lists)) traps
+      → AreBandLists p.deck.band (planned_area p k) m (lists ++ traps ∷ [])
+  lists_push m [] traps b c = (subst (λ (n : ℤ). IsBandList p.deck.band (planned_area p k) n traps) (omega (arith, ints)) c, tt)
   lists_push m (x ∷ lists) traps b c = (
     b.0,
     lists_push (m +ℤ pos 1) lists traps b.1
-        (subst (λ (n : ℤ). IsBandList p.deck.band (area_of p k) n traps) (omega (arith, ints)) c),
+        (subst (λ (n : ℤ). IsBandList p.deck.band (planned_area p k) n traps) (omega (arith, ints)) c),
   )
 
-  list_push : (m : ℤ) (shots traps : List Trapezoid) → IsShotListBelow (rules_of p.deck) (area_of p k) m shots → IsBandOf p k (band p.deck.band m) traps
-      → IsShotListBelow (rules_of p.deck) (area_of p k) (m +ℤ pos 1) (shots ++ band_shots p traps)
+  list_push : (m : ℤ) (shots traps : List Trapezoid) → IsShotListBelow (rules_of p.deck) (planned_area p k) m shots → IsBandOf p k (band p.deck.band m) traps
+      → IsShotListBelow (rules_of p.deck) (planned_area p k) (m +ℤ pos 1) (shots ++ band_shots p traps)
   list_push m shots traps s b =
       let up_to = s.up_to in
       record {
         first = s.first;
         lists = s.lists ++ traps ∷ [];
-        joined = lists_push s.first s.lists traps s.joined (subst (λ (n : ℤ). IsBandList p.deck.band (area_of p k) n traps) (sym up_to) (band_list m traps b));
+        joined = lists_push s.first s.lists traps s.joined (subst (λ (n : ℤ). IsBandList p.deck.band (planned_area p k) n traps) (sym up_to) (band_list m traps b));
         up_to = (let long = length-append s.lists (traps ∷ []) in omega (arith, ints, up_to, long));
         none_below = s.none_below;
         cut = ap (λ (l : List Trapezoid). l ++ band_shots p traps) s.cut
@@ -147,8 +147,8 @@ module _ (p : Planned) (k : ℕ) where
         let m = put.m +ℤ pos 1 in
         let all = put.shots ++ band_shots p traps in
         let list = list_push put.m put.shots traps put.list (of_window put.m window traps put.at b) in
-        let few = few_triangles all (below_shots (rules_of p.deck) rules.some_rows rules.limits (area_of p k) m all list)
-        (at_most_once _ all (below_covers (rules_of p.deck) rules.some_rows rules.limits (area_of p k) m all list)) in
+        let few = few_triangles all (below_shots (rules_of p.deck) rules.some_rows rules.limits (planned_area p k) m all list)
+        (at_most_once _ all (below_covers (rules_of p.deck) rules.some_rows rules.limits (planned_area p k) m all list)) in
         let so_far = put.summed.triangles in
         omega (arith, few, so_far, sum_by-append triangles_in put.shots (band_shots p traps))
 
@@ -226,7 +226,7 @@ more_on p k shots next on = record { more = next ++ on.more; list = subst (IsLis
 
 module _ (p : Planned) (k : ℕ) (rules : HasRules p.deck) (few : p.deck.band ≤ℤ pos 16777216) (rows : RowRange) (near : AreRowsNear rows)
     (outside : HasRows p k rows) (lists : (window : RowRange) → IsBand window → (traps : List Trapezoid) × IsBandOf p k window traps) where
-  all_below : (m : ℤ) (shots : List Trapezoid) → rows.y1 ≤ℤ (m *ℤ p.deck.band) → IsShotListBelow (rules_of p.deck) (area_of p k) m shots → GoesOn p k shots
+  all_below : (m : ℤ) (shots : List Trapezoid) → rows.y1 ≤ℤ (m *ℤ p.deck.band) → IsShotListBelow (rules_of p.deck) (planned_area p k) m shots → GoesOn p k shots
   all_below m shots done list = record {
     more = [];
     list = subst (IsListOf p k) (sym (append-nil shots)) (record {
@@ -243,7 +243,7 @@ module _ (p : Planned) (k : ℕ) (rules : HasRules p.deck) (few : p.deck.band �
 
   -- band after band, until at most n rows are left
   go_on : (n : ℕ) (m : ℤ) (shots : List Trapezoid) → neg_ℤ (pos 4294967296) ≤ℤ (m *ℤ p.deck.band)
-      → rows.y1 ≤ℤ ((m *ℤ p.deck.band) +ℤ pos n) → IsShotListBelow (rules_of p.deck) (area_of p k) m shots → GoesOn p k shots
+      → rows.y1 ≤ℤ ((m *ℤ p.deck.band) +ℤ pos n) → IsShotListBelow (rules_of p.deck) (planned_area p k) m shots → GoesOn p k shots
   go_on zero m shots low left list = all_below m shots (omega (arith, ints, left)) list
   go_on (suc n) m shots low left list =
       by_lt_z (m *ℤ p.deck.band) rows.y1
@@ -255,7 +255,7 @@ module _ (p : Planned) (k : ℕ) (rules : HasRules p.deck) (few : p.deck.band �
       (λ done. all_below m shots done list)
 
   goes_on : (m : ℤ) (shots : List Trapezoid) → neg_ℤ (pos 4294967296) ≤ℤ (m *ℤ p.deck.band)
-      → IsShotListBelow (rules_of p.deck) (area_of p k) m shots → GoesOn p k shots
+      → IsShotListBelow (rules_of p.deck) (planned_area p k) m shots → GoesOn p k shots
   goes_on m shots low list =
       by_lt_z (m *ℤ p.deck.band) rows.y1
       (λ less. (let gap = gap_is (m *ℤ p.deck.band) rows.y1 (omega (arith, ints, less)) in
@@ -276,7 +276,7 @@ module _ (p : Planned) (k : ℕ) (rules : HasRules p.deck) (few : p.deck.band �
 
   -- what was put of the shots of the first bands is a prefix of what is put of all
   part_of_all : (pair : Pair) (tells : Bool) (before now : Content) (m : ℤ) (shots : List Trapezoid) → neg_ℤ (pos 4294967296) ≤ℤ (m *ℤ p.deck.band)
-      → IsShotListBelow (rules_of p.deck) (area_of p k) m shots → (IsTrue tells → IsPartWritten before (records_of pair shots) now)
+      → IsShotListBelow (rules_of p.deck) (planned_area p k) m shots → (IsTrue tells → IsPartWritten before (records_of pair shots) now)
       → IsPutPart p k pair tells before now
   part_of_all pair tells before now m shots low list part =
       let all = goes_on m shots low list in

@@ -8,7 +8,7 @@ use Rattle.std.proofs.lemmas.List.Elements.{All-head, All-tail}
 use Rattle.std.proofs.lemmas.List.Sums.{sum_by-append, sum_by-cons}
 use Rattle.std.specs.List.{All}
 use Rattle.std.specs.Ordering.{int_eq}
-use Rattle.half_grid.specs.Sizes.{is_tile, is_same_side, IsNumberOfTiles}
+use Rattle.half_grid.specs.Sizes.{is_tile, is_same_side, IsNumberIn}
 use Rattle.half_grid.specs.Trapezoids.{Trapezoid, trapezoid, IsInTrapezoid, IsLegal, IsShot, CoversExactly, bottom_of, top_of, count_in, trapezoid_has}
 use Rattle.half_grid.specs.Winding.{count_one}
 use Rattle.half_grid.specs.declared.plane.Line.TheVariants.{Upright}
@@ -17,7 +17,6 @@ use Rattle.half_grid.specs.declared.plane.Side.TheVariants.{Left, Right}
 use Rattle.half_grid.specs.declared.plane.Tile.{Tile}
 use Rattle.half_grid.proofs.ForCallers.{size_is, has_in, in_has, count_by-cons, tile_of_shot_within, int_eq_true, int_eq_same}
 use Rattle.shot_writer.specs.Writing.{triangles_in, triangles_of}
-use Rattle.shot_output.specs.TileCounts.{IsNumberOfTilesIn}
 
 -- ---- the tiles of shots
 
@@ -26,12 +25,12 @@ product (pos m) (pos n) p q = refl
 product (pos m) (negsuc n) p q = absurd (omega (arith, ints, q))
 product (negsuc m) b p q = absurd (omega (arith, ints, p))
 
-tiles_of_one : (z : Trapezoid) → IsLegal z → IsNumberOfTiles z (triangles_in z)
+tiles_of_one : (z : Trapezoid) → IsLegal z → IsNumberIn (IsInTrapezoid z) (triangles_in z)
 tiles_of_one z legal = size_is z (triangles_in z) legal
     (product (z.y1 -ℤ z.y0) (bottom_of z +ℤ top_of z) (omega (arith, ints, legal.has_rows))
     (omega (arith, ints, legal.not_flat)))
 
-counted_by : (z : Trapezoid) (n : ℕ) (p : IsNumberOfTiles z n) (t : Tile) (b : Bool) → trapezoid_has t z ≡ b → count_by (is_tile t) p.tiles ≡ count_one b
+counted_by : (z : Trapezoid) (n : ℕ) (p : IsNumberIn (IsInTrapezoid z) n) (t : Tile) (b : Bool) → trapezoid_has t z ≡ b → count_by (is_tile t) p.tiles ≡ count_one b
 counted_by z n p t true e = p.once t (has_in t z e)
 counted_by z n p t false e = p.never t (λ h. (let yes = in_has t z h in absurd cc))
 
@@ -59,7 +58,7 @@ tiles_of (z ∷ zs) shots =
     )
 
 -- where shots cover an area exactly, their triangles are as many as its tiles
-pub area_count : (area : Tile → Type 0) (zs : List Trapezoid) → All IsShot zs → CoversExactly zs area → IsNumberOfTilesIn area (triangles_of zs)
+pub area_count : (area : Tile → Type 0) (zs : List Trapezoid) → All IsShot zs → CoversExactly zs area → IsNumberIn area (triangles_of zs)
 area_count area zs shots cover =
     let t = tiles_of zs shots in
     record {

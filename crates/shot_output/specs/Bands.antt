@@ -5,18 +5,18 @@ use Rattle.half_grid.specs.Windows.{RowRange}
 use Rattle.depot.specs.Content.{Content, with_written, IsPartWritten}
 use Rattle.half_grid.specs.declared.plane.Tile.{Tile}
 use Rattle.bool_ops.specs.Operations.{IsInRows}
-use Rattle.deck_plan.specs.Plans.{Planned, IsBandOf}
+use Rattle.deck_plan.specs.Plans.{Planned, IsBandOf, planned_area}
 use Rattle.fracture.specs.Cutting.{shots_of}
 use Rattle.layout_model.specs.declared.pair.Pair.{Pair}
 use Rattle.shot_writer.specs.Writing.{AreSumsAfter, no_sums, records_of, triangles_of}
 use Rattle.shot_writer.specs.declared.parts.Sums.{Sums}
 use Rattle.deck_plan.specs.Bands.{band}
 use Rattle.shot_output.specs.ShotLists.{IsShotListBelow}
-use Rattle.shot_output.specs.Files.{rules_of, area_of, IsListOf}
+use Rattle.shot_output.specs.Files.{rules_of, IsListOf}
 
 -- no tile of the output's area lies outside the rows
 abbrev pub HasRows : Planned → ℕ → RowRange → Type 0
-HasRows p k rows = (t : Tile) → area_of p k t → IsInRows rows t
+HasRows p k rows = (t : Tile) → planned_area p k t → IsInRows rows t
 
 abbrev pub band_shots : Planned → List Trapezoid → List Trapezoid
 band_shots p traps = shots_of p.deck.limits.height p.deck.limits.width traps
@@ -43,7 +43,7 @@ pub record IsPutBelow (p : Planned) (k : ℕ) (window : RowRange) (pair : Pair) 
   pub m : ℤ
   pub at : window ≡ band p.deck.band m
   pub shots : List Trapezoid
-  pub list : IsShotListBelow (rules_of p.deck) (area_of p k) m shots
+  pub list : IsShotListBelow (rules_of p.deck) (planned_area p k) m shots
   pub content : IsTrue tells → now ≡ with_written before (records_of pair shots)
   pub summed : AreSumsAfter no_sums shots sums
 

@@ -11,7 +11,7 @@ use Rattle.oas_lex.specs.ShotText.{shot_text}
 use Rattle.deck_text.specs.declared.deck.Output.{Output}
 use Rattle.deck_text.specs.declared.deck.Deck.{Deck}
 use Rattle.deck_plan.specs.Areas.{IsInOutput}
-use Rattle.deck_plan.specs.Plans.{Planned}
+use Rattle.deck_plan.specs.Plans.{Planned, planned_area}
 use Rattle.shot_writer.specs.Writing.{AreSumsAfter, no_sums}
 use Rattle.shot_writer.specs.declared.parts.Sums.{Sums}
 use Rattle.shot_output.specs.ShotLists.{Rules, IsShotList}
@@ -20,13 +20,9 @@ use Rattle.shot_output.specs.ShotLists.{Rules, IsShotList}
 abbrev pub rules_of : Deck → Rules
 rules_of deck = record { rows = deck.band; height = deck.limits.height; width = deck.limits.width }
 
--- the area of output k
-abbrev pub area_of : Planned → ℕ → Tile → Type 0
-area_of p k t = IsInOutput p.cells p.top p.deck k t
-
 -- the shot list of output k
 abbrev pub IsListOf : Planned → ℕ → List Trapezoid → Type 0
-IsListOf p k shots = IsShotList (rules_of p.deck) (area_of p k) shots
+IsListOf p k shots = IsShotList (rules_of p.deck) (planned_area p k) shots
 
 -- the one text of these shots for an output
 abbrev pub text_of : Deck → Output → List Trapezoid → List ℕ
@@ -49,14 +45,14 @@ pub record IsWritten (p : Planned) (k : ℕ) (tells : Bool) (before now : Conten
 
 -- The writing of output k was cut short: its file is as before, or holds a prefix of its text. Nothing else has changed but
 -- the name that writes go to.
-abbrev pub IsCutShort : Planned → ℕ → Content → Content → Type 0
-IsCutShort p k before now =
+abbrev pub IsOutputCutShort : Planned → ℕ → Content → Content → Type 0
+IsOutputCutShort p k before now =
     (output : Output) → slice_get p.deck.outputs k ≡ Some output → (text : List ℕ) × IsTextOf p k output text × IsPartMade before output.file text now
 
 -- ---- all outputs
 
 -- output k is whole: its file holds the text of its shot list, and the sums are those of these shots
-pub record IsWhole (p : Planned) (k : ℕ) (tells : Bool) (now : Content) (sums : Sums) : Type 0 where
+pub record IsWholeOutput (p : Planned) (k : ℕ) (tells : Bool) (now : Content) (sums : Sums) : Type 0 where
   pub shots : List Trapezoid
   pub list : IsListOf p k shots
   pub holds : (output : Output) → slice_get p.deck.outputs k ≡ Some output → IsTrue tells
@@ -74,7 +70,7 @@ pub record OnlyFilesOf (p : Planned) (n : ℕ) (before now : Content) : Type 0 w
 
 -- the first n outputs are written, with these sums
 pub record AreWritten (p : Planned) (n : ℕ) (tells : Bool) (before now : Content) (sums : List Sums) : Type 0 where
-  pub each : (k : ℕ) → k < n → (of : Sums) × (slice_get sums k ≡ Some of) × IsWhole p k tells now of
+  pub each : (k : ℕ) → k < n → (of : Sums) × (slice_get sums k ≡ Some of) × IsWholeOutput p k tells now of
   pub count : length sums ≡ n
   pub rest : IsTrue tells → OnlyFilesOf p n before now
 
@@ -89,6 +85,6 @@ IsPartOf p k before now =
 pub record AreCutShort (p : Planned) (tells : Bool) (before now : Content) : Type 0 where
   pub k : ℕ
   pub inside : k ≤ length p.deck.outputs
-  pub whole : (i : ℕ) → i < k → (sums : Sums) × IsWhole p i tells now sums
+  pub whole : (i : ℕ) → i < k → (sums : Sums) × IsWholeOutput p i tells now sums
   pub part : IsTrue tells → k < length p.deck.outputs → IsPartOf p k before now
   pub rest : IsTrue tells → OnlyFilesOf p (suc k) before now

@@ -11,10 +11,10 @@ use Rattle.cell_tree.specs.Flattening.{IsInLayer}
 use Rattle.deck_text.specs.declared.deck.Step.TheVariants.{Layer}
 use Rattle.deck_text.specs.declared.deck.Output.{Output}
 use Rattle.deck_text.specs.declared.deck.Deck.{Deck}
-use Rattle.deck_plan.specs.Plans.{Planned}
+use Rattle.deck_plan.specs.Plans.{Planned, planned_area}
 use Rattle.shot_writer.specs.Writing.{triangles_of}
-use Rattle.shot_output.specs.Files.{area_of, IsListOf, text_of}
-use Rattle.shot_output.specs.TileCounts.{IsNumberOfTilesIn}
+use Rattle.shot_output.specs.Files.{IsListOf, text_of}
+use Rattle.half_grid.specs.Sizes.{IsNumberIn}
 
 -- bands have rows, and the limits are those of shots
 pub record HasRules (deck : Deck) : Type 0 where
@@ -32,22 +32,22 @@ ShotsFit = (p : Planned) (k : ℕ) (shots : List Trapezoid) → HasRules p.deck 
 
 -- Each tile whatsoever is in exactly one of the shots where it is in the output's area, and in none otherwise.
 abbrev pub ShotsCover : Type 0
-ShotsCover = (p : Planned) (k : ℕ) (shots : List Trapezoid) → HasRules p.deck → IsListOf p k shots → CoversExactly shots (area_of p k)
+ShotsCover = (p : Planned) (k : ℕ) (shots : List Trapezoid) → HasRules p.deck → IsListOf p k shots → CoversExactly shots (planned_area p k)
 
 -- No cut is needless.
 abbrev pub ShotsAreFew : Type 0
 ShotsAreFew = (p : Planned) (k : ℕ) (shots : List Trapezoid) → HasRules p.deck → IsListOf p k shots
-    → HasNoNeedlessCut p.deck.band p.deck.limits.height p.deck.limits.width (area_of p k) shots
+    → HasNoNeedlessCut p.deck.band p.deck.limits.height p.deck.limits.width (planned_area p k) shots
 
 -- Their triangles are the tiles of the area.
 abbrev pub TrianglesAreTiles : Type 0
 TrianglesAreTiles = (p : Planned) (k : ℕ) (shots : List Trapezoid) → HasRules p.deck → IsListOf p k shots
-    → IsNumberOfTilesIn (area_of p k) (triangles_of shots)
+    → IsNumberIn (planned_area p k) (triangles_of shots)
 
 -- Where the areas of two outputs agree, and with them the bands and the limits, the shot list is one and the same.
 abbrev pub OneShotList : Type 0
 OneShotList = (p q : Planned) (k m : ℕ) (xs ys : List Trapezoid) → HasRules p.deck → p.deck.band ≡ q.deck.band → p.deck.limits ≡ q.deck.limits
-    → ((t : Tile) → area_of p k t ↔ area_of q m t) → IsListOf p k xs → IsListOf q m ys → xs ≡ ys
+    → ((t : Tile) → planned_area p k t ↔ planned_area q m t) → IsListOf p k xs → IsListOf q m ys → xs ≡ ys
 
 -- two trees of cells have the same areas on the layers of the deck
 abbrev pub HaveSameLayers : Deck → List Cell → ℕ → List Cell → ℕ → Type 0

@@ -1,7 +1,6 @@
 -- ---- what is promised, in reading order
-pub mod ShotLists
-pub mod TileCounts
 pub mod Files
-pub mod Laws
+pub mod ShotLists
 -- ---- what is kept inside
+pub mod Laws
 pub mod Bands

@@ -22,14 +22,14 @@ pub record Rules : Type 0 where
   pub width : ℤ
 
 -- the part of an area in the rows of a window
-pub record IsInPart (area : Tile → Type 0) (window : RowRange) (t : Tile) : Type 0 where
+pub record IsAreaInRows (area : Tile → Type 0) (window : RowRange) (t : Tile) : Type 0 where
   pub rows : IsInRows window t
   pub inside : area t
 
 -- the trapezoids of the area in band k
 pub record IsBandList (rows : ℤ) (area : Tile → Type 0) (k : ℤ) (traps : List Trapezoid) : Type 0 where
   pub shots : All IsShot traps
-  pub joined : IsJoinedOf (band rows k) (IsInPart area (band rows k)) traps
+  pub joined : IsJoinedOf (band rows k) (IsAreaInRows area (band rows k)) traps
 
 -- the same of band k and of those above it, one after another
 abbrev pub AreBandLists : ℤ → (Tile → Type 0) → ℤ → List (List Trapezoid) → Type 0

@@ -1,7 +1,7 @@
 //! The outputs of a deck, each written into its file.
 ghost use Rattle.std.specs.Prelude.{◌<◌, IsTrue, IfOk, OnErr, length};
 ghost use Rattle.depot.specs.Counting.{CountsWritesInMemory};
-ghost use Rattle.shot_output.specs.Files.{IsWritten, IsCutShort, AreWritten, AreCutShort};
+ghost use Rattle.shot_output.specs.Files.{IsWritten, IsOutputCutShort, AreWritten, AreCutShort};
 
 use crate::bands::put_bands;
 use deck_plan::Plan;
@@ -21,7 +21,7 @@ pub fn write_output<D: Depot>(
     requires { output < length plan.now.deck.outputs }
     ensures ok { IfOk result (λ sums. IsWritten plan.now output D.tells (D.content depot.old) (D.content depot.new) sums) }
     ensures refused { OnErr result (IsTrue D.tells
-        → IsCutShort plan.now output (D.content depot.old) (D.content depot.new)) }
+        → IsOutputCutShort plan.now output (D.content depot.old) (D.content depot.new)) }
     ensures counts { CountsWritesInMemory (D.counts depot.old) (D.counts depot.new) result }
 {
     plan.has_lists(output);

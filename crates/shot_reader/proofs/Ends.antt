@@ -8,8 +8,8 @@ use Rattle.std.proofs.lemmas.Bool.{cases_lt}
 use Rattle.std.proofs.lemmas.Bool.Decides.{nat_tests}
 use Rattle.std.proofs.lemmas.List.Elements.{All-cons}
 use Rattle.std.proofs.lemmas.List.Recursion.{is_count_by}
-use Rattle.oas_lex.specs.Numbers.{IsWhole as IsSpelling}
-use Rattle.shot_reader.specs.Refusals.{IsNumber, HasNumbers, IsWhole}
+use Rattle.oas_lex.specs.Numbers.{IsWholeNumber as IsSpelling}
+use Rattle.shot_reader.specs.Refusals.{IsNumber, HasNumberCount, IsWholeShotRecord}
 
 -- how many numbers end among the bytes
 abbrev pub ends : List ℕ → ℕ
@@ -109,7 +109,7 @@ numbers_end (n ∷ numbers) rest h =
       numbers_end numbers rest (λ k d below. h (suc k) d (omega arith)),
     )
 
-pub whole_by : (id count : ℕ) (xs : List ℕ) → HasNumbers id count → count ≤ ends xs → IsWhole (id ∷ 123 ∷ xs)
+pub whole_by : (id count : ℕ) (xs : List ℕ) → HasNumberCount id count → count ≤ ends xs → IsWholeShotRecord (id ∷ 123 ∷ xs)
 whole_by id count xs has h =
     let s : Some count xs = some count xs h in
     record {
@@ -127,10 +127,10 @@ pub record Begun (rest : List ℕ) : Type 0 where
   pub body : List ℕ
   pub text : rest ≡ id ∷ 123 ∷ body
   pub count : ℕ
-  pub has : HasNumbers id count
+  pub has : HasNumberCount id count
   pub enough : count ≤ ends body
 
-pub whole_begun : (rest : List ℕ) → IsWhole rest → Begun rest
+pub whole_begun : (rest : List ℕ) → IsWholeShotRecord rest → Begun rest
 whole_begun rest w = record {
   id = w.id;
   body = concat w.numbers ++ w.after;
@@ -140,11 +140,11 @@ whole_begun rest w = record {
   enough = numbers_end w.numbers w.after w.ends;
 }
 
-id_not_end : (id count : ℕ) → HasNumbers id count → id ≡ 2 → ⊥
+id_not_end : (id count : ℕ) → HasNumberCount id count → id ≡ 2 → ⊥
 id_not_end id count h e = elim h [ inl a ↦ omega arith | inr b ↦ elim b [ inl a ↦ omega arith | inr d ↦ elim d [ inl a ↦ omega arith | inr a ↦ omega arith ] ] ]
 
 -- no whole record is END
-pub whole_not_end : (rest after : List ℕ) → IsWhole rest → rest ≡ 2 ∷ after → ⊥
+pub whole_not_end : (rest after : List ℕ) → IsWholeShotRecord rest → rest ≡ 2 ∷ after → ⊥
 whole_not_end rest after w e =
     let same : w.id ∷ 123 ∷ concat w.numbers ++ w.after ≡ 2 ∷ after = sym w.text ∙ e in
     id_not_end w.id (length w.numbers) w.count (cc)
@@ -155,20 +155,20 @@ pub record Shown (rest : List ℕ) : Type 0 where
   pub size : 2 ≤ length rest
   pub info : get_or rest 1 0 ≡ 123
   pub count : ℕ
-  pub has : HasNumbers (get_or rest 0 0) count
+  pub has : HasNumberCount (get_or rest 0 0) count
   pub enough : count ≤ ends (drop 2 rest)
 
-shown_by : (id count : ℕ) (body : List ℕ) → HasNumbers id count → count ≤ ends body → Shown (id ∷ 123 ∷ body)
+shown_by : (id count : ℕ) (body : List ℕ) → HasNumberCount id count → count ≤ ends body → Shown (id ∷ 123 ∷ body)
 shown_by id count body h g = record { size = omega arith; info = refl; count = count; has = h; enough = g }
 
-pub whole_shown : (rest : List ℕ) → IsWhole rest → Shown rest
+pub whole_shown : (rest : List ℕ) → IsWholeShotRecord rest → Shown rest
 whole_shown rest w = let b : Begun rest = whole_begun rest w in subst (λ (t : List ℕ). Shown t) (sym b.text) (shown_by b.id b.count b.body b.has b.enough)
 
 pub whole_if : (rest : List ℕ) (count : ℕ) → 2 ≤ length rest → get_or rest 1 0 ≡ 123
-    → HasNumbers (get_or rest 0 0) count → count ≤ ends (drop 2 rest) → IsWhole rest
+    → HasNumberCount (get_or rest 0 0) count → count ≤ ends (drop 2 rest) → IsWholeShotRecord rest
 whole_if [] count h info has enough = absurd (omega arith)
 whole_if (a ∷ []) count h info has enough = absurd (omega arith)
-whole_if (a ∷ b ∷ xs) count h info has enough = subst (λ (n : ℕ). IsWhole (a ∷ n ∷ xs)) (sym info) (whole_by a count xs has enough)
+whole_if (a ∷ b ∷ xs) count h info has enough = subst (λ (n : ℕ). IsWholeShotRecord (a ∷ n ∷ xs)) (sym info) (whole_by a count xs has enough)
 
 pub ends_is : (rest : List ℕ) (n : ℕ) → n ≡ count_by (λ b. nat_lt b 128) (take (length rest - 2) (drop 2 rest)) → n ≡ ends (drop 2 rest)
 ends_is rest n e = e ∙ (ap (λ (t : List ℕ). count_by (λ b. nat_lt b 128) t) (rest_is rest 2) ∙ sym (ends_count (drop 2 rest)))

@@ -6,8 +6,8 @@ use Rattle.half_grid.specs.Trapezoids.{Trapezoid, IsShot}
 use Rattle.layout_model.specs.declared.pair.Pair.{Pair}
 use Rattle.oas_lex.specs.ShotLaws.{IsNarrowPair}
 use Rattle.oas_lex.specs.ShotText.{IsUnit, head, end, spelling_of, shot_text}
-use Rattle.shot_reader.specs.Reading.{IsFileOf, IsPairOf, Agrees}
-use Rattle.shot_reader.specs.Refusals.{IsReadUpTo, IsFirstFault}
+use Rattle.shot_reader.specs.Reading.{IsFileOf, IsPairOf, AgreesWithPair}
+use Rattle.shot_reader.specs.Refusals.{AreShotsReadUpTo, IsFirstShotFault}
 use Rattle.shot_reader.specs.declared.refusing.ShotBad.{ShotBad}
 use Rattle.shot_reader.proofs.Faults.{no_fault, one_read}
 use Rattle.shot_reader.proofs.Rests.{text_parts}
@@ -22,13 +22,13 @@ before_end unit l d shots = text_parts unit l d shots ∙ sym (append_assoc (hea
 -- the bytes were read up to END: the unit, the pair and the shots that stand before it
 pub record IsReadWhole (bytes : List ℕ) (unit : ℕ) (pair : Option Pair) (shots : List Trapezoid) : Type 0 where
   pub at : ℕ
-  pub up : IsReadUpTo bytes at pair
+  pub up : AreShotsReadUpTo bytes at pair
   pub unit_is : up.unit ≡ unit
   pub shots_are : up.shots ≡ shots
   pub rest : drop at bytes ≡ end
 
 whole_of : (bytes : List ℕ) (unit l d : ℕ) (pair : Option Pair) (shots : List Trapezoid) → IsUnit unit
-    → All IsShot shots → IsNarrowPair l d → IsPairOf pair shots → Agrees pair l d
+    → All IsShot shots → IsNarrowPair l d → IsPairOf pair shots → AgreesWithPair pair l d
     → bytes ≡ shot_text unit l d shots → IsReadWhole bytes unit pair shots
 whole_of bytes unit l d pair shots u all p fits agrees e =
     let text : bytes ≡ before unit l d shots ++ end = e ∙ before_end unit l d shots in
@@ -68,7 +68,7 @@ file_whole bytes unit (Some p) shots f =
 
 -- a shot file of this unit, this pair and these shots has no fault
 pub file_right : (bytes : List ℕ) (unit : ℕ) (pair : Option Pair) (shots : List Trapezoid) (bad : ShotBad)
-    → IsFileOf bytes unit pair shots → IsFirstFault bytes bad → ⊥
+    → IsFileOf bytes unit pair shots → IsFirstShotFault bytes bad → ⊥
 file_right bytes unit pair shots bad f fault =
     let w = file_whole bytes unit pair shots f in no_fault bytes w.at pair bad w.up w.rest fault
 

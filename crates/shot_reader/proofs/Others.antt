@@ -13,8 +13,8 @@ use Rattle.oas_lex.proofs.ForCallers.{spelling_is, spelling_some}
 use Rattle.oas_lex.specs.declared.fields.ShotFields.{ShotFields}
 use Rattle.shot_reader.specs.declared.refusing.ShotBad.TheVariants as faults
 use Rattle.shot_reader.specs.Fields.{HasShape}
-use Rattle.shot_reader.specs.Reading.{Agrees, IsPairOf, IsFileOf}
-use Rattle.shot_reader.specs.Refusals.{BeginsHead, BeginsEnd, IsSpelled, IsRecordFault, IsReadUpTo}
+use Rattle.shot_reader.specs.Reading.{AgreesWithPair, IsPairOf, IsFileOf}
+use Rattle.shot_reader.specs.Refusals.{BeginsHead, BeginsEnd, IsShotSpelled, IsShotRecordFault, AreShotsReadUpTo}
 use Rattle.shot_reader.specs.Laws.{IsNoFile, HasNoFault}
 use Rattle.shot_reader.proofs.Faults.{up_whole}
 use Rattle.shot_reader.proofs.Rests.{text_parts, not_nil, all_more}
@@ -52,7 +52,7 @@ headed bytes none right = climb (length bytes) bytes 0 (none_begins bytes) (omeg
 -- ---- one record more
 
 -- where a record with another pair may stand next, its pair is that of the records before it
-same_front : (first : Option Pair) (l d m e : ℕ) (shots : List Trapezoid) → IsPairOf first shots → Agrees first l d → Agrees first m e
+same_front : (first : Option Pair) (l d m e : ℕ) (shots : List Trapezoid) → IsPairOf first shots → AgreesWithPair first l d → AgreesWithPair first m e
     → flat_map (spelling_of l d) shots ≡ flat_map (spelling_of m e) shots
 same_front None l d m e shots none g h = ap (flat_map (spelling_of l d)) none ∙ sym (ap (flat_map (spelling_of m e)) none)
 same_front (Some p) l d m e shots some g h = rw (← g.0, ← g.1, ← h.0, ← h.1) refl
@@ -61,18 +61,18 @@ same_front (Some p) l d m e shots some g h = rw (← g.0, ← g.1, ← h.0, ← 
 record Further (bytes : List ℕ) (at : ℕ) : Type 0 where
   to : ℕ
   pair : Option Pair
-  up : IsReadUpTo bytes to pair
+  up : AreShotsReadUpTo bytes to pair
   more : at < to
 
 front_after : ℕ → ℕ → ℕ → List Trapezoid → List ℕ
 front_after unit l d shots = head unit ++ flat_map (spelling_of l d) shots
 
-spelled_as : (first : Option Pair) (rest : List ℕ) (f : ShotFields) (z : Trapezoid) (s : IsSpelled first rest f)
+spelled_as : (first : Option Pair) (rest : List ℕ) (f : ShotFields) (z : Trapezoid) (s : IsShotSpelled first rest f)
     → HasShape f z → rest ≡ spelling_of f.layer f.datatype z ++ s.after
 spelled_as first rest f z s shape = s.text ∙ ap (λ (t : List ℕ). t ++ s.after) (ap text_of shape ∙ sym (spelling_is f.layer f.datatype z))
 
-text_more : (bytes : List ℕ) (at : ℕ) (first : Option Pair) (u : IsReadUpTo bytes at first) (f : ShotFields)
-    (z : Trapezoid) (s : IsSpelled first (drop at bytes) f) → HasShape f z
+text_more : (bytes : List ℕ) (at : ℕ) (first : Option Pair) (u : AreShotsReadUpTo bytes at first) (f : ShotFields)
+    (z : Trapezoid) (s : IsShotSpelled first (drop at bytes) f) → HasShape f z
     → bytes ≡ front_after u.unit f.layer f.datatype (u.shots ++ z ∷ []) ++ s.after
 unfolding front_after
 text_more bytes at first u f z s shape =
@@ -85,8 +85,8 @@ text_more bytes at first u f z s shape =
     ∙ (sym (append_assoc (head u.unit ++ flat_map own u.shots) (own z) s.after)
     ∙ ap (λ (t : List ℕ). t ++ s.after) (flat_map_more own (head u.unit) u.shots z))))
 
-front_length : (bytes : List ℕ) (at : ℕ) (first : Option Pair) (u : IsReadUpTo bytes at first) (f : ShotFields)
-    (z : Trapezoid) (s : IsSpelled first (drop at bytes) f)
+front_length : (bytes : List ℕ) (at : ℕ) (first : Option Pair) (u : AreShotsReadUpTo bytes at first) (f : ShotFields)
+    (z : Trapezoid) (s : IsShotSpelled first (drop at bytes) f)
     → length (front_after u.unit f.layer f.datatype (u.shots ++ z ∷ [])) ≡ at + length (spelling_of f.layer f.datatype z)
 unfolding front_after
 front_length bytes at first u f z s =
@@ -98,8 +98,8 @@ front_length bytes at first u f z s =
     let size : length (head u.unit ++ flat_map own u.shots) ≡ at = ap length (sym front) ∙ length-take-le at bytes u.within in
     omega (arith, whole, size, length-append (head u.unit ++ flat_map own u.shots) (own z))
 
-further : (bytes : List ℕ) (at : ℕ) (first : Option Pair) (u : IsReadUpTo bytes at first) (f : ShotFields)
-    (z : Trapezoid) → IsSpelled first (drop at bytes) f → IsShot z → HasShape f z → Further bytes at
+further : (bytes : List ℕ) (at : ℕ) (first : Option Pair) (u : AreShotsReadUpTo bytes at first) (f : ShotFields)
+    (z : Trapezoid) → IsShotSpelled first (drop at bytes) f → IsShot z → HasShape f z → Further bytes at
 unfolding front_after
 further bytes at first u f z s h shape =
     let front = front_after u.unit f.layer f.datatype (u.shots ++ z ∷ []) in
@@ -127,7 +127,7 @@ further bytes at first u f z s h shape =
 -- ---- the whole
 
 -- what was read up to END is a shot file
-file_here : (bytes : List ℕ) (at : ℕ) (first : Option Pair) (u : IsReadUpTo bytes at first) → drop at bytes ≡ end → IsFileOf bytes u.unit first u.shots
+file_here : (bytes : List ℕ) (at : ℕ) (first : Option Pair) (u : AreShotsReadUpTo bytes at first) → drop at bytes ≡ end → IsFileOf bytes u.unit first u.shots
 file_here bytes at first u e = record {
   unit_fits = u.unit_fits;
   legal = u.legal;
@@ -141,9 +141,9 @@ file_here bytes at first u e = record {
 }
 
 -- END, and each fault of a record, aside: a record follows
-one_more : (bytes : List ℕ) (at : ℕ) (first : Option Pair) → IsReadUpTo bytes at first → IsNoFile bytes → HasNoFault bytes → (Further bytes at → ⊥) → ⊥
+one_more : (bytes : List ℕ) (at : ℕ) (first : Option Pair) → AreShotsReadUpTo bytes at first → IsNoFile bytes → HasNoFault bytes → (Further bytes at → ⊥) → ⊥
 one_more bytes at first u no_file right last =
-    let wrong : (bad : _) → IsRecordFault first (drop at bytes) at bad → ⊥ = λ bad fault. right bad (inr (at, first, u, fault)) in
+    let wrong : (bad : _) → IsShotRecordFault first (drop at bytes) at bad → ⊥ = λ bad fault. right bad (inr (at, first, u, fault)) in
     let no_end : BeginsEnd (drop at bytes) → ⊥ = λ b. wrong (faults.End at) (inl (refl, b, λ e. no_file u.unit first u.shots (file_here bytes at first u e))) in
     wrong (faults.Record at) (inr (inl (
       refl,
@@ -157,13 +157,13 @@ one_more bytes at first u no_file right last =
           )))),
     )))
 
-go_on : (fuel : ℕ) (bytes : List ℕ) (at : ℕ) (first : Option Pair) → IsReadUpTo bytes at first
+go_on : (fuel : ℕ) (bytes : List ℕ) (at : ℕ) (first : Option Pair) → AreShotsReadUpTo bytes at first
     → length bytes - at ≤ fuel → IsNoFile bytes → HasNoFault bytes → ⊥
 go_on zero bytes at first u few no_file right = one_more bytes at first u no_file right (λ m. omega (arith, m.more, m.up.within, few))
 go_on (suc fuel) bytes at first u few no_file right =
     one_more bytes at first u no_file right (λ m. go_on fuel bytes m.to m.pair m.up (omega (arith, m.more, few)) no_file right)
 
-head_read : (bytes : List ℕ) (unit : ℕ) (after : List ℕ) → IsUnit unit → bytes ≡ head unit ++ after → IsReadUpTo bytes (length (head unit)) None
+head_read : (bytes : List ℕ) (unit : ℕ) (after : List ℕ) → IsUnit unit → bytes ≡ head unit ++ after → AreShotsReadUpTo bytes (length (head unit)) None
 head_read bytes unit after h e = record {
   within = omega (arith, ap length e, length-append (head unit) after);
   unit = unit;

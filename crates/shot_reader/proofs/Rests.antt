@@ -8,8 +8,8 @@ use Rattle.half_grid.specs.Trapezoids.{Trapezoid, IsShot}
 use Rattle.layout_model.specs.declared.pair.Pair.{Pair}
 use Rattle.oas_lex.specs.ShotText.{IsUnit, head, spelling_of, shot_text, end}
 use Rattle.oas_lex.specs.ShotLaws.{IsNarrowPair}
-use Rattle.shot_reader.specs.Refusals.{IsReadUpTo}
-use Rattle.shot_reader.specs.Reading.{Agrees, IsPairOf, IsFileOf, records_with}
+use Rattle.shot_reader.specs.Refusals.{AreShotsReadUpTo}
+use Rattle.shot_reader.specs.Reading.{AgreesWithPair, IsPairOf, IsFileOf, records_with}
 
 pub unit_small : (u : ℕ) → IsUnit u → u < 2 ^ 63
 unit_small u h = omega (arith, h.few)
@@ -18,7 +18,7 @@ pub text_parts : (u l d : ℕ) (zs : List Trapezoid) → shot_text u l d zs ≡ 
 unfolding shot_text
 text_parts u l d zs = simp append_assoc
 
-pub found_next : (pair : Option Pair) (l d : ℕ) (shots : List Trapezoid) (z : Trapezoid) (bytes rest after : List ℕ) → IsPairOf pair shots → Agrees pair l d
+pub found_next : (pair : Option Pair) (l d : ℕ) (shots : List Trapezoid) (z : Trapezoid) (bytes rest after : List ℕ) → IsPairOf pair shots → AgreesWithPair pair l d
     → bytes ≡ records_with pair shots ++ rest → rest ≡ spelling_of l d z ++ after → bytes ≡ flat_map (spelling_of l d) (shots ++ z ∷ []) ++ after
 found_next None l d shots z bytes rest after h g e f =
     e ∙ (f ∙ (sym (append_assoc (spelling_of l d z) [] after) ∙ ap
@@ -73,7 +73,7 @@ pub own_narrow : (pair : Option Pair) (shots : List Trapezoid) → IsPairOf pair
 own_narrow None shots h = record { layer_bits = omega arith; datatype_bits = omega arith }
 own_narrow (Some p) shots h = h.1
 
-pub own_agrees : (pair : Option Pair) → Agrees pair (layer_of pair) (datatype_of pair)
+pub own_agrees : (pair : Option Pair) → AgreesWithPair pair (layer_of pair) (datatype_of pair)
 own_agrees None = tt
 own_agrees (Some p) = (refl, refl)
 
@@ -96,7 +96,7 @@ own_text bytes from at unit pair shots e h f =
 abbrev pub up_to : (bytes : List ℕ) (from at unit : ℕ) (pair : Option Pair) (shots : List Trapezoid) → IsUnit unit
     → at ≤ length bytes → bytes ≡ head unit ++ drop from bytes → IsPairOf pair shots → All IsShot shots
     → drop from bytes ≡ records_with pair shots ++ drop at bytes
-    → IsReadUpTo bytes at pair
+    → AreShotsReadUpTo bytes at pair
 up_to bytes from at unit pair shots u within e h all f = record {
   within = within;
   unit = unit;

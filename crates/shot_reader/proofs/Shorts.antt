@@ -4,7 +4,7 @@ use Rattle.std.proofs.Common.{length, take, drop, get_or, arith, inl, inr, ap, s
 use Rattle.std.proofs.lemmas.Bool.{cases_lt, cases_eq}
 use Rattle.std.proofs.lemmas.List.{drop-drop, length-drop, length-append, take-append-drop, get_or-drop, get_or-take, get_or_append_left, drop_more}
 use Rattle.oas_lex.specs.Spelling.{groups, unsigned_text, signed_text}
-use Rattle.oas_lex.specs.Numbers.{IsWhole, HasUnsigned, value_of}
+use Rattle.oas_lex.specs.Numbers.{IsWholeNumber, HasUnsigned, value_of}
 use Rattle.oas_lex.specs.ShotText.{id_for, delta_text, text_of}
 use Rattle.oas_lex.specs.declared.fields.ShotFields.{ShotFields}
 use Rattle.oas_lex.proofs.ForCallers.{groups_last, groups_next, whole_some, text_opens}
@@ -28,7 +28,7 @@ below (suc more) = 128 * below more
 ends_rest : (x : ℕ) (rest : List ℕ) → EndsSome (x ∷ rest) → EndsSome rest
 ends_rest x rest e = λ k h. e (suc k) (ap suc h)
 
-some_value : (xs : List ℕ) → IsWhole xs → EndsSome xs → 1 ≤ value_of xs
+some_value : (xs : List ℕ) → IsWholeNumber xs → EndsSome xs → 1 ≤ value_of xs
 some_value [] w e = absurd w
 some_value (x ∷ rest) (inl a) e =
     elim (cases_eq x 0) [
@@ -40,11 +40,11 @@ some_value (x ∷ rest) (inl a) e =
     ]
 some_value (x ∷ rest) (inr a) e = omega (arith, some_value rest a.1 (ends_rest x rest e))
 
-none_whole : (ys : List ℕ) → IsWhole ys → length ys ≡ 0 → ⊥
+none_whole : (ys : List ℕ) → IsWholeNumber ys → length ys ≡ 0 → ⊥
 none_whole [] w h = w
 none_whole (y ∷ ys) w h = absurd (omega (arith, h))
 
-pub spelled_groups : (more : ℕ) (xs : List ℕ) (n : ℕ) → AreBytes xs → IsWhole xs → value_of xs ≡ n → n < below more
+pub spelled_groups : (more : ℕ) (xs : List ℕ) (n : ℕ) → AreBytes xs → IsWholeNumber xs → value_of xs ≡ n → n < below more
     → EndsSome xs ⊎ (length xs ≡ 1) → xs ≡ groups more n
 spelled_groups more [] n b w v l e = absurd w
 spelled_groups more (x ∷ rest) n b (inl a) v l e =

@@ -5,7 +5,7 @@ use Rattle.oas_lex.specs.Spelling.{unsigned_text, signed_text}
 use Rattle.oas_lex.specs.ShotText.{AreNarrow, id_for, delta_text, text_of}
 use Rattle.oas_lex.specs.declared.fields.ShotFields.{ShotFields}
 use Rattle.oas_lex.proofs.ForCallers.{unsigned_spells, signed_spells, opened, text_opens}
-use Rattle.shot_reader.specs.Refusals.{HasNumbers, IsWhole}
+use Rattle.shot_reader.specs.Refusals.{HasNumberCount, IsWholeShotRecord}
 use Rattle.shot_reader.proofs.Ends.{ends, ends_append, ends_one, whole_by}
 
 unsigned_ends : (n : ℕ) (x : List ℕ) → n < 2 ^ 63 → ends (unsigned_text n ++ x) ≡ 1 + ends x
@@ -18,7 +18,7 @@ delta_ends : (p : Bool) (z : ℤ) (x : List ℕ) → unsigned_abs z < 2 ^ 62 →
 delta_ends true z x h = omega arith
 delta_ends false z x h = signed_ends z x h
 
-count_by_tests : (p q : Bool) → HasNumbers (cond p (cond q 20 25) (cond q 24 23)) (6 + cond p 0 1 + cond q 0 1)
+count_by_tests : (p q : Bool) → HasNumberCount (cond p (cond q 20 25) (cond q 24 23)) (6 + cond p 0 1 + cond q 0 1)
 count_by_tests true true = inl (refl, refl)
 count_by_tests true false = inr (inr (inr (refl, refl)))
 count_by_tests false true = inr (inr (inl (refl, refl)))
@@ -49,9 +49,9 @@ opened_ends f after h =
     ++ (delta_text f.right_delta ++ (signed_text f.x ++ (signed_text f.y ++ after))))))) h.layer in
     omega arith
 
-pub text_whole : (f : ShotFields) (rest after : List ℕ) → AreNarrow f → rest ≡ text_of f ++ after → IsWhole rest
+pub text_whole : (f : ShotFields) (rest after : List ℕ) → AreNarrow f → rest ≡ text_of f ++ after → IsWholeShotRecord rest
 text_whole f rest after h e =
-    let own : IsWhole (id_for f.left_delta f.right_delta ∷ 123 ∷ opened f after) =
+    let own : IsWholeShotRecord (id_for f.left_delta f.right_delta ∷ 123 ∷ opened f after) =
     whole_by (id_for f.left_delta f.right_delta)
     (6 + cond (int_eq f.left_delta (pos 0)) 0 1 + cond (int_eq f.right_delta (pos 0)) 0 1) (opened f after)
     (count_by_tests (int_eq f.left_delta (pos 0)) (int_eq f.right_delta (pos 0))) (opened_ends f after h) in

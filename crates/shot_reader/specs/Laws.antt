@@ -4,7 +4,7 @@ use Rattle.std.specs.Prelude.{ℕ, ◌≡◌, List, Option}
 use Rattle.half_grid.specs.Trapezoids.{Trapezoid}
 use Rattle.layout_model.specs.declared.pair.Pair.{Pair}
 use Rattle.shot_reader.specs.Reading.{IsFileOf}
-use Rattle.shot_reader.specs.Refusals.{IsFirstFault}
+use Rattle.shot_reader.specs.Refusals.{IsFirstShotFault}
 use Rattle.shot_reader.specs.declared.refusing.ShotBad.{ShotBad}
 
 -- Bytes are the shot file of one unit, one pair and one list of shots at most.
@@ -16,11 +16,11 @@ OneReading =
 
 -- They have one first fault at most.
 abbrev pub OneFault : Type 0
-OneFault = (bytes : List ℕ) (bad other : ShotBad) → IsFirstFault bytes bad → IsFirstFault bytes other → bad ≡ other
+OneFault = (bytes : List ℕ) (bad other : ShotBad) → IsFirstShotFault bytes bad → IsFirstShotFault bytes other → bad ≡ other
 
 -- bytes in which no first fault is
 abbrev pub HasNoFault : List ℕ → Type 0
-HasNoFault bytes = (bad : ShotBad) → IsFirstFault bytes bad → ⊥
+HasNoFault bytes = (bad : ShotBad) → IsFirstShotFault bytes bad → ⊥
 
 -- bytes that are no shot file
 abbrev pub IsNoFile : List ℕ → Type 0

@@ -1,9 +1,9 @@
 -- ---- what is promised, in reading order
 pub mod Reading
-pub mod Fields
-pub mod Near
 pub mod Refusals
-pub mod Laws
+pub mod Fields
 -- ---- what is kept inside
+pub mod Near
+pub mod Laws
 pub mod Alike
 pub mod Spelled

@@ -17,9 +17,9 @@ records_with None shots = []
 records_with (Some pair) shots = flat_map (spelling_of pair.layer pair.datatype) shots
 
 -- a record with this pair may stand next
-abbrev pub Agrees : Option Pair → ℕ → ℕ → Type 0
-Agrees None layer datatype = Unit {0}
-Agrees (Some pair) layer datatype = (pair.layer ≡ layer) × (pair.datatype ≡ datatype)
+abbrev pub AgreesWithPair : Option Pair → ℕ → ℕ → Type 0
+AgreesWithPair None layer datatype = Unit {0}
+AgreesWithPair (Some pair) layer datatype = (pair.layer ≡ layer) × (pair.datatype ≡ datatype)
 
 -- the bytes are the text of this unit, this pair and these shots, each of which is legal and within reach
 pub record IsFileOf (bytes : List ℕ) (unit : ℕ) (pair : Option Pair) (shots : List Trapezoid) : Type 0 where
@@ -28,5 +28,5 @@ pub record IsFileOf (bytes : List ℕ) (unit : ℕ) (pair : Option Pair) (shots 
   pub pair_fits : IsPairOf pair shots
   pub layer : ℕ
   pub datatype : ℕ
-  pub agrees : Agrees pair layer datatype
+  pub agrees : AgreesWithPair pair layer datatype
   pub text : bytes ≡ shot_text unit layer datatype shots

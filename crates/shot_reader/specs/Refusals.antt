@@ -13,7 +13,7 @@ use Rattle.layout_model.specs.declared.pair.Pair.{Pair}
 use Rattle.oas_lex.specs.ShotLaws.{IsNarrowPair}
 use Rattle.oas_lex.specs.ShotText.{IsUnit, head, end, AreNarrow, text_of, spelling_of}
 use Rattle.shot_reader.specs.Fields.{HasShape}
-use Rattle.shot_reader.specs.Reading.{IsPairOf, Agrees}
+use Rattle.shot_reader.specs.Reading.{IsPairOf, AgreesWithPair}
 use Rattle.oas_lex.specs.declared.fields.ShotFields.{ShotFields}
 use Rattle.shot_reader.specs.declared.refusing.ShotBad.{ShotBad}
 use Rattle.shot_reader.specs.declared.refusing.ShotBad.TheVariants as faults
@@ -41,23 +41,23 @@ abbrev pub IsNumber : List ℕ → Type 0
 IsNumber bytes = (front : List ℕ) × (last : ℕ) × (bytes ≡ front ++ last ∷ []) × All (λ b. 128 ≤ b) front × (last < 128)
 
 -- the id is one of a shot's record, which has so many numbers
-abbrev pub HasNumbers : ℕ → ℕ → Type 0
-HasNumbers id count =
+abbrev pub HasNumberCount : ℕ → ℕ → Type 0
+HasNumberCount id count =
     ((id ≡ 20) × (count ≡ 6)) ⊎ ((id ≡ 23) × (count ≡ 8)) ⊎ ((id ≡ 24) × (count ≡ 7)) ⊎ ((id ≡ 25) × (count ≡ 7))
 
 -- the bytes begin with an id of a shot's record, its info byte 7B and all its numbers
-pub record IsWhole (rest : List ℕ) : Type 0 where
+pub record IsWholeShotRecord (rest : List ℕ) : Type 0 where
   pub id : ℕ
   pub numbers : List (List ℕ)
-  pub count : HasNumbers id (length numbers)
+  pub count : HasNumberCount id (length numbers)
   pub ends : All IsNumber numbers
   pub after : List ℕ
   pub text : rest ≡ id ∷ 123 ∷ concat numbers ++ after
 
 -- the bytes begin with the one spelling of these fields, whose pair may stand after the first record's
-pub record IsSpelled (first : Option Pair) (rest : List ℕ) (f : ShotFields) : Type 0 where
+pub record IsShotSpelled (first : Option Pair) (rest : List ℕ) (f : ShotFields) : Type 0 where
   pub narrow : AreNarrow f
-  pub agrees : Agrees first f.layer f.datatype
+  pub agrees : AgreesWithPair first f.layer f.datatype
   pub after : List ℕ
   pub text : rest ≡ text_of f ++ after
 
@@ -66,18 +66,18 @@ abbrev pub BeginsEnd : List ℕ → Type 0
 BeginsEnd rest = (after : List ℕ) × (rest ≡ 2 ∷ after)
 
 -- what is wrong with the record that begins here, after records with the first pair
-abbrev pub IsRecordFault : Option Pair → List ℕ → ℕ → ShotBad → Type 0
-IsRecordFault first rest at bad =
+abbrev pub IsShotRecordFault : Option Pair → List ℕ → ℕ → ShotBad → Type 0
+IsShotRecordFault first rest at bad =
     ((bad ≡ faults.End at) × BeginsEnd rest × (rest ≢ end))
-    ⊎ ((bad ≡ faults.Record at) × (BeginsEnd rest → ⊥) × (IsWhole rest → ⊥))
-    ⊎ ((bad ≡ faults.Spelling at) × IsWhole rest × ((f : ShotFields) → IsSpelled first rest f → ⊥))
-    ⊎ ((bad ≡ faults.Illegal at) × ((f : ShotFields) × IsSpelled first rest f × ((z : Trapezoid) → IsShot z → HasShape f z → ⊥)))
+    ⊎ ((bad ≡ faults.Record at) × (BeginsEnd rest → ⊥) × (IsWholeShotRecord rest → ⊥))
+    ⊎ ((bad ≡ faults.Spelling at) × IsWholeShotRecord rest × ((f : ShotFields) → IsShotSpelled first rest f → ⊥))
+    ⊎ ((bad ≡ faults.Illegal at) × ((f : ShotFields) × IsShotSpelled first rest f × ((z : Trapezoid) → IsShot z → HasShape f z → ⊥)))
 
 -- ---- the file
 
 -- Before this offset stand a head and records of shots, and nothing else; this is the pair of the records, where there
 -- are some.
-pub record IsReadUpTo (bytes : List ℕ) (at : ℕ) (pair : Option Pair) : Type 0 where
+pub record AreShotsReadUpTo (bytes : List ℕ) (at : ℕ) (pair : Option Pair) : Type 0 where
   pub within : at ≤ length bytes
   pub unit : ℕ
   pub unit_fits : IsUnit unit
@@ -87,11 +87,11 @@ pub record IsReadUpTo (bytes : List ℕ) (at : ℕ) (pair : Option Pair) : Type 
   pub datatype : ℕ
   pub narrow : IsNarrowPair layer datatype
   pub pair_fits : IsPairOf pair shots
-  pub agrees : Agrees pair layer datatype
+  pub agrees : AgreesWithPair pair layer datatype
   pub text : take at bytes ≡ head unit ++ flat_map (spelling_of layer datatype) shots
 
 -- this is the first fault of the bytes
-abbrev pub IsFirstFault : List ℕ → ShotBad → Type 0
-IsFirstFault bytes bad =
+abbrev pub IsFirstShotFault : List ℕ → ShotBad → Type 0
+IsFirstShotFault bytes bad =
     ((n : ℕ) × (bad ≡ faults.Head n) × IsHeadFault bytes n)
-    ⊎ ((at : ℕ) × (pair : Option Pair) × IsReadUpTo bytes at pair × IsRecordFault pair (drop at bytes) at bad)
+    ⊎ ((at : ℕ) × (pair : Option Pair) × AreShotsReadUpTo bytes at pair × IsShotRecordFault pair (drop at bytes) at bad)

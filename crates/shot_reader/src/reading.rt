@@ -5,8 +5,8 @@ ghost use Rattle.geo_stream.specs.declared.refusal.Refusal.TheVariants.{Fault, N
 ghost use Rattle.half_grid.specs.Trapezoids.{Trapezoid, IsShot};
 ghost use Rattle.oas_lex.specs.ShotText.{IsUnit, spelling_of, shot_text, end};
 ghost use Rattle.oas_lex.specs.ShotLaws.{IsNarrowPair};
-ghost use Rattle.shot_reader.specs.Reading.{Agrees, IsFileOf};
-ghost use Rattle.shot_reader.specs.Refusals.{IsRecordFault, IsFirstFault};
+ghost use Rattle.shot_reader.specs.Reading.{AgreesWithPair, IsFileOf};
+ghost use Rattle.shot_reader.specs.Refusals.{IsShotRecordFault, IsFirstShotFault};
 ghost use Rattle.shot_reader.specs.declared.refusing.ShotBad.{ShotBad};
 
 use crate::corners::trap_of;
@@ -43,7 +43,7 @@ struct Record {
 
 // Whether a record with the pair may stand after those with the first.
 fn agrees(first: Option<Pair>, pair: Pair) -> bool
-    ensures { IsTrue result ↔ Agrees first pair.layer pair.datatype }
+    ensures { IsTrue result ↔ AgreesWithPair first pair.layer pair.datatype }
 {
     match first {
         None => true,
@@ -55,11 +55,11 @@ fn agrees(first: Option<Pair>, pair: Pair) -> bool
 fn read_record(bytes: &[u8], at: usize, first: Option<Pair>) -> Result<Record, ShotBad>
     requires here { at < length bytes.now }
     requires no_end { slice_index bytes.now at ≢ 2 }
-    ensures pair { IfOk result (λ r. IsNarrowPair r.pair.layer r.pair.datatype × Agrees first r.pair.layer r.pair.datatype) }
+    ensures pair { IfOk result (λ r. IsNarrowPair r.pair.layer r.pair.datatype × AgreesWithPair first r.pair.layer r.pair.datatype) }
     ensures next { IfOk result (λ r. (at < r.next) × (r.next ≤ length bytes.now)) }
     ensures shot { IfOk result (λ r. IsShot r.shot) }
     ensures found { IfOk result (λ r. drop at bytes.now ≡ spelling_of r.pair.layer r.pair.datatype r.shot ++ drop r.next bytes.now) }
-    ensures refused { IfErr result (λ bad. IsRecordFault first (drop at bytes.now) at bad) }
+    ensures refused { IfErr result (λ bad. IsShotRecordFault first (drop at bytes.now) at bad) }
 {
     let (fields, next) = fields_at(bytes, at);
     if bytes.len() < next {
@@ -93,12 +93,12 @@ pub fn read_shots(alloc: Global, bytes: &[u8]) -> Result<ShotFile, Refusal<ShotB
     ensures found { IfOk result (λ file. IsFileOf bytes.now file.unit file.pair file.shots) }
     ensures read { (unit l d : ℕ) (shots : Items Trapezoid) → IsUnit unit → IsNarrowPair l d → All IsShot shots
         → bytes.now ≡ shot_text unit l d shots
-        → IfOk result (λ file. (file.unit ≡ unit) × (file.shots ≡ shots) × Agrees file.pair l d) }
+        → IfOk result (λ file. (file.unit ≡ unit) × (file.shots ≡ shots) × AgreesWithPair file.pair l d) }
     ensures refused { (unit l d : ℕ) (shots : Items Trapezoid) → IsUnit unit → IsNarrowPair l d → All IsShot shots
         → bytes.now ≡ shot_text unit l d shots
         → IfErr result (λ refusal. refusal ≡ NoMemory) }
-    ensures first_fault { IfFault result (IsFirstFault bytes.now) }
-    ensures every_fault { (bad : ShotBad) → IsFirstFault bytes.now bad → (result ≡ Err (Fault bad)) ⊎ (result ≡ Err NoMemory) }
+    ensures first_fault { IfFault result (IsFirstShotFault bytes.now) }
+    ensures every_fault { (bad : ShotBad) → IsFirstShotFault bytes.now bad → (result ≡ Err (Fault bad)) ⊎ (result ≡ Err NoMemory) }
 {
     let Some((unit, first)) = head_of(bytes) else {
         return Err(Refusal::Fault(ShotBad::Head(longest_head(bytes))));

@@ -1,6 +1,6 @@
 //! Why bytes are no shot file.
 ghost use Rattle.std.specs.Prelude.{◌≡◌, ◌⊎◌, ◌≤◌, ℕ, length, drop, nat_lt, count_by, IsTrue, IfSome};
-ghost use Rattle.shot_reader.specs.Refusals.{HasNumbers, IsWhole};
+ghost use Rattle.shot_reader.specs.Refusals.{HasNumberCount, IsWholeShotRecord};
 
 use oas_lex::{INFO, RECTANGLE, TRAPEZOID, TRAPEZOID_A, TRAPEZOID_B};
 
@@ -22,8 +22,8 @@ pub enum ShotBad {
 
 // How many numbers the record of this id has.
 fn numbers_of(id: u8) -> Option<usize>
-    ensures some { IfSome result (λ count. HasNumbers id count) }
-    ensures all { (count : ℕ) → HasNumbers id count → result ≡ Some count }
+    ensures some { IfSome result (λ count. HasNumberCount id count) }
+    ensures all { (count : ℕ) → HasNumberCount id count → result ≡ Some count }
 {
     match id {
         RECTANGLE => Some(6),
@@ -42,8 +42,8 @@ fn ends_in(bytes: &[u8]) -> usize
 
 // Whether the bytes begin with an id of a shot's record, its info byte and all its numbers.
 fn is_whole(rest: &[u8]) -> bool
-    ensures yes { IsTrue result → IsWhole rest.now }
-    ensures all { IsWhole rest.now → IsTrue result }
+    ensures yes { IsTrue result → IsWholeShotRecord rest.now }
+    ensures all { IsWholeShotRecord rest.now → IsTrue result }
 {
     if rest.len() < 2 {
         return false;
@@ -61,7 +61,7 @@ fn is_whole(rest: &[u8]) -> bool
 /// bytes end inside it, and else Spelling.
 pub(crate) fn record_refusal(bytes: &[u8], at: usize) -> ShotBad
     requires { at ≤ length bytes.now }
-    ensures { ((result ≡ ShotBad.Spelling at) × IsWhole (drop at bytes.now)) ⊎ ((result ≡ ShotBad.Record at) × (IsWhole (drop at bytes.now) → ⊥)) }
+    ensures { ((result ≡ ShotBad.Spelling at) × IsWholeShotRecord (drop at bytes.now)) ⊎ ((result ≡ ShotBad.Record at) × (IsWholeShotRecord (drop at bytes.now) → ⊥)) }
 {
     if is_whole(&bytes[at..]) {
         ShotBad::Spelling(at)

@@ -12,7 +12,7 @@ use Rattle.shot_repeat.specs.Packed.{HasFew, most_of_record, most_of_file}
 use Rattle.shot_repeat.specs.Progress.{HasRead}
 use Rattle.shot_repeat.specs.Records.{IsNarrow, record_text}
 use Rattle.shot_repeat.specs.Refusals.{count_given}
-use Rattle.shot_repeat.specs.Values.{count_of}
+use Rattle.shot_repeat.specs.Values.{shot_count}
 use Rattle.shot_repeat.specs.declared.reading.Progress.{Progress}
 use Rattle.shot_repeat.specs.declared.record.PackRecord.{PackRecord}
 use Rattle.shot_repeat.proofs.Gifts.{all_front, all_rest}
@@ -39,7 +39,7 @@ prefix (r ∷ rs) (s ∷ ss) a b h k none e =
 few_front : (rs ss ts : List PackRecord) → rs ≡ ss ++ ts → AreFew rs → AreFew ss
 few_front rs ss ts e h = record {
   each = all_front HasFew ss ts (subst (λ (t : List PackRecord). All HasFew t) e h.each);
-  all = omega (arith, h.all, ap count_given e, sum_by-append (λ (s : PackRecord). count_of s.repetition) ss ts);
+  all = omega (arith, h.all, ap count_given e, sum_by-append (λ (s : PackRecord). shot_count s.repetition) ss ts);
 }
 
 -- the records up to a place where none is spelled are few, and so are any that begin there
@@ -83,12 +83,12 @@ text_on rest before after rs r e f =
     ∙ (sym (append_assoc (flat_map record_text rs) (record_text r ++ []) after)
     ∙ ap (λ (t : List ℕ). t ++ after) (sym (flat_map-append record_text rs (r ∷ []))))))
 
-count_on : (rs : List PackRecord) (r : PackRecord) → count_given (rs ++ r ∷ []) ≡ count_given rs + count_of r.repetition
-count_on rs r = omega (arith, sum_by-append (λ (s : PackRecord). count_of s.repetition) rs (r ∷ []))
+count_on : (rs : List PackRecord) (r : PackRecord) → count_given (rs ++ r ∷ []) ≡ count_given rs + shot_count r.repetition
+count_on rs r = omega (arith, sum_by-append (λ (s : PackRecord). shot_count s.repetition) rs (r ∷ []))
 
 pub one_asked : (bytes : List ℕ) (at next after total count : ℕ) (r : PackRecord) → Asked bytes at next total
     → IsNarrow r → drop next bytes ≡ record_text r ++ drop after bytes → after ≤ length bytes
-    → count ≡ count_of r.repetition
+    → count ≡ shot_count r.repetition
     → count ≤ most_of_record → total + count ≤ most_of_file → Asked bytes at after (total + count)
 one_asked bytes at next after total count r a narrow e within c own all = record {
   within = within;
@@ -99,13 +99,13 @@ one_asked bytes at next after total count r a narrow e within c own all = record
   few = record { each = few_more a.records r (omega (arith, own, c)) a.few.each; all = omega (arith, count_on a.records r, a.total_is, c, all) };
 }
 
-last_few : (rs : List PackRecord) (s : PackRecord) → All HasFew (rs ++ s ∷ []) → count_of s.repetition ≤ most_of_record
+last_few : (rs : List PackRecord) (s : PackRecord) → All HasFew (rs ++ s ∷ []) → shot_count s.repetition ≤ most_of_record
 last_few rs s h = all_rest HasFew rs (s ∷ []) h 0 s (omega arith)
 
 -- a record too much
 pub too_many_asked : (bytes after : List ℕ) (at next total : ℕ) (r : PackRecord) → Asked bytes at next total
     → IsNarrow r → drop next bytes ≡ record_text r ++ after
-    → AskForFew (drop at bytes) → (count_of r.repetition ≤ most_of_record) × (total + count_of r.repetition ≤ most_of_file)
+    → AskForFew (drop at bytes) → (shot_count r.repetition ≤ most_of_record) × (total + shot_count r.repetition ≤ most_of_file)
 too_many_asked bytes after at next total r a narrow e few =
     let all = few (a.records ++ r ∷ [])
     (record {

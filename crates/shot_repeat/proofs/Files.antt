@@ -12,12 +12,12 @@ use Rattle.layout_model.specs.declared.pair.Pair.{Pair}
 use Rattle.oas_lex.specs.ShotText.{head, end, fields_of}
 use Rattle.oas_lex.specs.declared.fields.ShotFields.{ShotFields}
 use Rattle.oas_lex.proofs.ForCallers.{head_peel, shot_names}
-use Rattle.shot_reader.specs.Reading.{IsPairOf, Agrees}
+use Rattle.shot_reader.specs.Reading.{IsPairOf, AgreesWithPair}
 use Rattle.shot_reader.proofs.ForCallers.{unit_small}
 use Rattle.shot_repeat.specs.Packed.{IsPackedText, IsPackedFile, HasFew, most_of_file}
 use Rattle.shot_repeat.specs.Records.{IsNarrow, record_text}
-use Rattle.shot_repeat.specs.Refusals.{HasFirstPair, count_given, AreRight, IsReadUpTo, IsFirstFault}
-use Rattle.shot_repeat.specs.Values.{fields_in, count_of, step_of, given, all_given, AreDefined}
+use Rattle.shot_repeat.specs.Refusals.{HasFirstPair, count_given, AreRight, ArePackRecordsReadUpTo, IsFirstPackFault}
+use Rattle.shot_repeat.specs.Values.{fields_in, shot_count, step_of, given, all_given, AreDefined}
 use Rattle.shot_repeat.specs.declared.record.PackRecord.{PackRecord}
 use Rattle.shot_repeat.specs.declared.refusing.PackBad.{PackBad}
 use Rattle.shot_repeat.proofs.Gifts.{length_moved, length_map, some_given, first_given, halves, all_front, all_rest}
@@ -58,7 +58,7 @@ unfolding pair
 same_pair p q a b = pair_by p.layer p.datatype q.layer q.datatype a b
 
 pair_one : (l d m e : ℕ) (first other : Option Pair) (ys zs : List Trapezoid) → IsPairOf first ys → IsPairOf other zs
-    → Agrees first l d → Agrees other m e → ys ≡ zs → (ys ≢ [] → (l ≡ m) × (d ≡ e)) → first ≡ other
+    → AgreesWithPair first l d → AgreesWithPair other m e → ys ≡ zs → (ys ≢ [] → (l ≡ m) × (d ≡ e)) → first ≡ other
 pair_one l d m e None None ys zs i j a b s h = refl
 pair_one l d m e None (Some q) ys zs i j a b s h = absurd (j.0 (sym s ∙ i))
 pair_one l d m e (Some p) None ys zs i j a b s h = absurd (i.0 (s ∙ j))
@@ -108,8 +108,8 @@ are_by : (f : ShotFields) (l d : ℕ) (zs : List Trapezoid) (gs : List ShotField
     → map (fields_of l d) zs ≡ gs → map (fields_of f.layer f.datatype) zs ≡ gs
 are_by f l d zs gs e g h = ap (λ (n : ℕ). map (fields_of n f.datatype) zs) (sym e) ∙ (ap (λ (n : ℕ). map (fields_of l n) zs) (sym g) ∙ h)
 
-few_more : (before : List PackRecord) (r : PackRecord) → count_given (before ++ r ∷ []) ≡ count_given before + count_of r.repetition
-few_more before r = omega (arith, sum_by-append (λ (s : PackRecord). count_of s.repetition) before (r ∷ []))
+few_more : (before : List PackRecord) (r : PackRecord) → count_given (before ++ r ∷ []) ≡ count_given before + shot_count r.repetition
+few_more before r = omega (arith, sum_by-append (λ (s : PackRecord). shot_count s.repetition) before (r ∷ []))
 
 rights : (before records : List PackRecord) (l d : ℕ) (shots : List Trapezoid) → All IsNarrow records
     → AreDefined before records → All HasFew records → All IsShot shots
@@ -117,11 +117,11 @@ rights : (before records : List PackRecord) (l d : ℕ) (shots : List Trapezoid)
 rights before [] l d shots n defined few legal are first all = tt
 rights before (r ∷ rest) l d shots n defined few legal are first all =
     let two = halves (fields_of l d) shots (given before r) (all_given (before ++ r ∷ []) rest) are in
-    let pairs = first_given (fields_in before r) (step_of r.repetition) 0 (count_of r.repetition) l d two.front (some_given r.repetition) two.fronts in
+    let pairs = first_given (fields_in before r) (step_of r.repetition) 0 (shot_count r.repetition) l d two.front (some_given r.repetition) two.fronts in
     let whole : All IsShot (two.front ++ two.rest) = subst (λ (t : List Trapezoid). All IsShot t) two.split legal in
-    let size : length two.front ≡ count_of r.repetition = sym (length_map (fields_of l d) two.front)
+    let size : length two.front ≡ shot_count r.repetition = sym (length_map (fields_of l d) two.front)
     ∙ (ap length two.fronts ∙ length_moved (fields_in before r) (step_of r.repetition) 0
-    (count_of r.repetition)) in
+    (shot_count r.repetition)) in
     let sum = ap length two.split ∙ length-append two.front two.rest in (
       record {
         narrow = n 0 r (omega arith);
@@ -145,7 +145,7 @@ front_of : ℕ → List PackRecord → List ℕ
 front_of unit records = head unit ++ flat_map record_text records
 
 pub file_up : (bytes : List ℕ) (unit : ℕ) (first : Option Pair) (shots : List Trapezoid)
-    (f : IsPackedFile bytes unit first shots) → (at : ℕ) × IsReadUpTo bytes at f.stands.records × (drop at bytes ≡ end)
+    (f : IsPackedFile bytes unit first shots) → (at : ℕ) × ArePackRecordsReadUpTo bytes at f.stands.records × (drop at bytes ≡ end)
 unfolding front_of
 file_up bytes unit first shots f =
     let s = f.stands in
@@ -162,12 +162,12 @@ file_up bytes unit first shots f =
     )
 
 pub file_right : (bytes : List ℕ) (unit : ℕ) (first : Option Pair) (shots : List Trapezoid) (bad : PackBad)
-    → IsPackedFile bytes unit first shots → IsFirstFault bytes bad → ⊥
+    → IsPackedFile bytes unit first shots → IsFirstPackFault bytes bad → ⊥
 file_right bytes unit first shots bad f fault =
     let up = file_up bytes unit first shots f in no_fault bytes up.0 f.stands.records bad up.1 up.2 fault
 
 pub told : {T : Type 0} (bytes : List ℕ) (own : PackBad) (result : Result T (Refusal PackBad)) → result ≡ Err (Fault own)
-    → IsFirstFault bytes own → (bad : PackBad) → IsFirstFault bytes bad → (result ≡ Err (Fault bad))
+    → IsFirstPackFault bytes own → (bad : PackBad) → IsFirstPackFault bytes bad → (result ≡ Err (Fault bad))
     ⊎ (result ≡ Err NoMemory)
 told {T} bytes own result e f bad w =
     let wrong : PackBad → Result T (Refusal PackBad) = λ b. Err (Fault b) in
@@ -175,8 +175,8 @@ told {T} bytes own result e f bad w =
 
 -- the same of an answer, which is no fault where the bytes have none
 pub told_of : {T : Type 0} (P : T → Type 0) (bytes : List ℕ) (result : Result T (Refusal PackBad))
-    → ((x : T) → P x → (bad : PackBad) → IsFirstFault bytes bad → ⊥) → IfOk result P
-    → IfFault result (IsFirstFault bytes) → (bad : PackBad) → IsFirstFault bytes bad
+    → ((x : T) → P x → (bad : PackBad) → IsFirstPackFault bytes bad → ⊥) → IfOk result P
+    → IfFault result (IsFirstPackFault bytes) → (bad : PackBad) → IsFirstPackFault bytes bad
     → (result ≡ Err (Fault bad)) ⊎ (result ≡ Err NoMemory)
 told_of {T} P bytes (Ok x) none found refused bad w = absurd (none x found bad w)
 told_of {T} P bytes (Err (Fault own)) none found refused bad w = told bytes own (Err (Fault own)) refl refused bad w

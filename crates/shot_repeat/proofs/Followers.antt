@@ -12,7 +12,7 @@ use Rattle.oas_lex.specs.declared.fields.ShotFields.{ShotFields}
 use Rattle.oas_lex.proofs.ForCallers.{same_fields}
 use Rattle.shot_repeat.specs.Packed.{most_of_record}
 use Rattle.shot_repeat.specs.Packing.{step_between, has_shape_of, is_step, followers, run_length, IsRun, repetition_of}
-use Rattle.shot_repeat.specs.Values.{moved, moved_from, count_of, step_of}
+use Rattle.shot_repeat.specs.Values.{moved, moved_from, shot_count, step_of}
 use Rattle.shot_repeat.specs.declared.record.Repetition.{Repetition}
 use Rattle.shot_repeat.proofs.Gifts.{moved_none, moved_next}
 use Rattle.shot_repeat.proofs.Steps.{same_point}
@@ -100,9 +100,9 @@ run_is l d a b rest n h g =
 
 -- the record that begins a list stands for so many of it
 pub record Stands (f : ShotFields) (rest : List ShotFields) (o : Option Repetition) : Type 0 where
-  pub few : count_of o ≤ most_of_record
-  pub within : count_of o ≤ length (f ∷ rest)
-  pub given : moved_from f (step_of o) 0 (count_of o) ≡ take (count_of o) (f ∷ rest)
+  pub few : shot_count o ≤ most_of_record
+  pub within : shot_count o ≤ length (f ∷ rest)
+  pub given : moved_from f (step_of o) 0 (shot_count o) ≡ take (shot_count o) (f ∷ rest)
 
 one_given : (f : ShotFields) (rest : List ShotFields) → Stands f rest None
 one_given f rest = record {

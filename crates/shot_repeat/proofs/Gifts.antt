@@ -9,7 +9,7 @@ use Rattle.half_grid.specs.declared.plane.Point.{Point}
 use Rattle.oas_lex.specs.ShotText.{fields_of}
 use Rattle.oas_lex.specs.declared.fields.ShotFields.{ShotFields}
 use Rattle.oas_lex.proofs.ForCallers.{same_fields}
-use Rattle.shot_repeat.specs.Values.{moved, moved_from, given, all_given, count_of}
+use Rattle.shot_repeat.specs.Values.{moved, moved_from, given, all_given, shot_count}
 use Rattle.shot_repeat.specs.declared.record.PackRecord.{PackRecord}
 use Rattle.shot_repeat.specs.declared.record.Repetition.{Repetition}
 
@@ -36,7 +36,7 @@ pub length_map : {X Y : Type 0} (h : X → Y) (xs : List X) → length (map h xs
 length_map h [] = refl
 length_map h (x ∷ xs) = omega (arith, length_map h xs)
 
-pub some_given : (o : Option Repetition) → 1 ≤ count_of o
+pub some_given : (o : Option Repetition) → 1 ≤ shot_count o
 some_given None = omega arith
 some_given (Some p) = omega arith
 

@@ -4,7 +4,7 @@ use Rattle.std.proofs.Common.{arith, ap, sym, subst, ◌∙◌, inl, inr, append
 use Rattle.std.specs.List.{concat}
 use Rattle.std.proofs.lemmas.List.{drop_more, length-drop}
 use Rattle.std.proofs.lemmas.List.Elements.{All-append, All-cons}
-use Rattle.oas_lex.specs.Numbers.{IsWhole as IsSpelling}
+use Rattle.oas_lex.specs.Numbers.{IsWholeNumber as IsSpelling}
 use Rattle.oas_lex.proofs.ForCallers.{none_begins}
 use Rattle.shot_reader.specs.Refusals.{IsNumber}
 use Rattle.shot_repeat.specs.Numbers.{NumberAt, NumbersAt, Left}

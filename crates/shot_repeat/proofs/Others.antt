@@ -15,8 +15,8 @@ use Rattle.shot_reader.specs.Refusals.{BeginsHead, BeginsEnd}
 use Rattle.shot_repeat.specs.Laws.{IsNoFile, HasNoFault}
 use Rattle.shot_repeat.specs.Packed.{most_of_file}
 use Rattle.shot_repeat.specs.Records.{IsNarrowNumber, record_text}
-use Rattle.shot_repeat.specs.Refusals.{count_given, IsLegalAfter, IsSpelled, IsValueFault, IsRight, AreRight, IsRecordFault, IsReadUpTo}
-use Rattle.shot_repeat.specs.Values.{fields_in, count_of, step_of, given, all_given}
+use Rattle.shot_repeat.specs.Refusals.{count_given, IsLegalAfter, IsPackSpelled, IsPackValueFault, IsRight, AreRight, IsPackRecordFault, ArePackRecordsReadUpTo}
+use Rattle.shot_repeat.specs.Values.{fields_in, shot_count, step_of, given, all_given}
 use Rattle.shot_repeat.specs.declared.record.PackRecord.{PackRecord}
 use Rattle.shot_repeat.specs.declared.refusing.PackBad.{PackBad}
 use Rattle.shot_repeat.specs.declared.refusing.PackBad.TheVariants as faults
@@ -60,13 +60,13 @@ headed bytes none right = climb (length bytes) bytes 0 (none_begins bytes) (omeg
 record Further (bytes : List ℕ) (at : ℕ) : Type 0 where
   to : ℕ
   records : List PackRecord
-  up : IsReadUpTo bytes to records
+  up : ArePackRecordsReadUpTo bytes to records
   more : at < to
 
 front_after : ℕ → List PackRecord → List ℕ
 front_after unit records = head unit ++ flat_map record_text records
 
-text_more : (bytes : List ℕ) (at : ℕ) (records : List PackRecord) (u : IsReadUpTo bytes at records) (r : PackRecord)
+text_more : (bytes : List ℕ) (at : ℕ) (records : List PackRecord) (u : ArePackRecordsReadUpTo bytes at records) (r : PackRecord)
     (after : List ℕ) → drop at bytes ≡ record_text r ++ after → bytes ≡ front_after u.unit (records ++ r ∷ []) ++ after
 unfolding front_after
 text_more bytes at records u r after e =
@@ -76,7 +76,7 @@ text_more bytes at records u r after e =
     ∙ (sym (append_assoc (head u.unit) (flat_map record_text records ++ record_text r) after)
     ∙ ap (λ (t : List ℕ). (head u.unit ++ t) ++ after) (flat_map_more record_text [] records r))))
 
-front_length : (bytes : List ℕ) (at : ℕ) (records : List PackRecord) (u : IsReadUpTo bytes at records) (r : PackRecord)
+front_length : (bytes : List ℕ) (at : ℕ) (records : List PackRecord) (u : ArePackRecordsReadUpTo bytes at records) (r : PackRecord)
     → at + length (record_text r) ≡ length (front_after u.unit (records ++ r ∷ []))
 unfolding front_after
 front_length bytes at records u r =
@@ -86,7 +86,7 @@ front_length bytes at records u r =
     (flat_map_more record_text (head u.unit) records r) in
     omega (arith, whole, size, length-append (head u.unit ++ flat_map record_text records) (record_text r))
 
-further : (bytes : List ℕ) (at : ℕ) (records : List PackRecord) (u : IsReadUpTo bytes at records) (r : PackRecord)
+further : (bytes : List ℕ) (at : ℕ) (records : List PackRecord) (u : ArePackRecordsReadUpTo bytes at records) (r : PackRecord)
     (after : List ℕ) → IsRight records r → drop at bytes ≡ record_text r ++ after → Further bytes at
 unfolding front_after
 further bytes at records u r after h e =
@@ -106,15 +106,15 @@ further bytes at records u r after h e =
     }
 
 -- END, and each fault of a record, aside: a record follows
-one_more : (bytes : List ℕ) (at : ℕ) (records : List PackRecord) → IsReadUpTo bytes at records
+one_more : (bytes : List ℕ) (at : ℕ) (records : List PackRecord) → ArePackRecordsReadUpTo bytes at records
     → (drop at bytes ≡ end → ⊥) → HasNoFault bytes → (Further bytes at → ⊥) → ⊥
 one_more bytes at records u not_last right last =
     let rest = drop at bytes in
-    let wrong : (bad : PackBad) → IsRecordFault records rest at bad → ⊥ = λ bad fault. right bad (inr (at, records, u, fault)) in
+    let wrong : (bad : PackBad) → IsPackRecordFault records rest at bad → ⊥ = λ bad fault. right bad (inr (at, records, u, fault)) in
     let no_end : BeginsEnd rest → ⊥ = λ b. wrong (faults.End at) (inl (refl, b, not_last)) in
-    let value : (r : PackRecord) (s : IsSpelled rest r) (bad : PackBad) → IsValueFault records r at bad
+    let value : (r : PackRecord) (s : IsPackSpelled rest r) (bad : PackBad) → IsPackValueFault records r at bad
     → ⊥ = λ r s bad v. wrong bad (inr (inr (inr (r, s, v)))) in
-    let spelled : (r : PackRecord) → IsSpelled rest r → ⊥ = λ r s.
+    let spelled : (r : PackRecord) → IsPackSpelled rest r → ⊥ = λ r s.
     value r s (faults.Undefined at) (inl (
       refl,
       λ d.
@@ -185,7 +185,7 @@ total : (before records : List PackRecord) → AreRight before records → count
 total before [] h few = omega (arith, few, ap count_given (append-nil before))
 total before (r ∷ rest) h few =
     let more : count_given (before ++ r ∷ []) ≤ most_of_file = omega
-    (arith, h.0.few.all, sum_by-append (λ (s : PackRecord). count_of s.repetition) before (r ∷ [])) in
+    (arith, h.0.few.all, sum_by-append (λ (s : PackRecord). shot_count s.repetition) before (r ∷ [])) in
     omega (arith, total (before ++ r ∷ []) rest h.1 more, ap count_given (append_assoc before (r ∷ []) rest))
 
 length_given : (before records : List PackRecord) → length (all_given before records) ≡ count_given records
@@ -195,10 +195,10 @@ length_given before (r ∷ rest) =
       arith,
       length-append (given before r) (all_given (before ++ r ∷ []) rest),
       length_moved (fields_in before r)
-          (step_of r.repetition) 0 (count_of r.repetition),
+          (step_of r.repetition) 0 (shot_count r.repetition),
       length_given (before ++ r ∷ []) rest,
       sum_by-cons
-          (λ (s : PackRecord). count_of s.repetition) r rest,
+          (λ (s : PackRecord). shot_count s.repetition) r rest,
     )
 
 narrow_own : (o : Option ℕ) → IsNarrowNumber o → unwrap_or o 0 < 2 ^ 63
@@ -208,10 +208,10 @@ narrow_own (Some n) h = h
 gathered_some : (r : PackRecord) (rest : List PackRecord) (l d : ℕ) (g : Gathered [] (r ∷ rest) l d) → g.shots ≢ []
 gathered_some r rest l d g e =
     let none : length (all_given [] (r ∷ rest)) ≡ 0 = sym (ap length g.are) ∙ ap (λ (t : List Trapezoid). length (map (fields_of l d) t)) e in
-    omega (arith, none, length_given [] (r ∷ rest), sum_by-cons (λ (s : PackRecord). count_of s.repetition) r rest, some_given r.repetition)
+    omega (arith, none, length_given [] (r ∷ rest), sum_by-cons (λ (s : PackRecord). shot_count s.repetition) r rest, some_given r.repetition)
 
 -- what was read up to END is a packed shot file
-file_here : (bytes : List ℕ) (at : ℕ) (records : List PackRecord) → IsReadUpTo bytes at records → drop at bytes ≡ end → IsNoFile bytes → ⊥
+file_here : (bytes : List ℕ) (at : ℕ) (records : List PackRecord) → ArePackRecordsReadUpTo bytes at records → drop at bytes ≡ end → IsNoFile bytes → ⊥
 file_here bytes at [] u e none = none u.unit None [] (record {
   stands = record {
     unit_fits = u.unit_fits;
@@ -260,7 +260,7 @@ file_here bytes at (r ∷ rest) u e none =
       few = omega (arith, sym (length_map (fields_of l d) g.shots), ap length g.are, length_given [] (r ∷ rest), total [] (r ∷ rest) u.right (omega arith));
     })
 
-go_on : (fuel : ℕ) (bytes : List ℕ) (at : ℕ) (records : List PackRecord) → IsReadUpTo bytes at records
+go_on : (fuel : ℕ) (bytes : List ℕ) (at : ℕ) (records : List PackRecord) → ArePackRecordsReadUpTo bytes at records
     → length bytes - at ≤ fuel → IsNoFile bytes → HasNoFault bytes → ⊥
 go_on zero bytes at records u few none right = one_more bytes at records u
     (λ e. file_here bytes at records u e none) right (λ m. omega (arith, m.more, m.up.within, few))
@@ -268,7 +268,7 @@ go_on (suc fuel) bytes at records u few none right =
     one_more bytes at records u (λ e. file_here bytes at records u e none) right
     (λ m. go_on fuel bytes m.to m.records m.up (omega (arith, m.more, few)) none right)
 
-head_read : (bytes : List ℕ) (unit : ℕ) (after : List ℕ) → IsUnit unit → bytes ≡ head unit ++ after → IsReadUpTo bytes (length (head unit)) []
+head_read : (bytes : List ℕ) (unit : ℕ) (after : List ℕ) → IsUnit unit → bytes ≡ head unit ++ after → ArePackRecordsReadUpTo bytes (length (head unit)) []
 head_read bytes unit after h e = record {
   within = omega (arith, ap length e, length-append (head unit) after);
   unit = unit;

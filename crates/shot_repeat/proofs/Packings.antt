@@ -17,7 +17,7 @@ use Rattle.shot_repeat.specs.Packed.{HasFew}
 use Rattle.shot_repeat.specs.Packing.{run_length, repetition_of, changed, changed_place, packed_record, records_of, packed_records, packed_text}
 use Rattle.shot_repeat.specs.PackingLaws.{TextStands, TextIsFile}
 use Rattle.shot_repeat.specs.Records.{IsNarrowRepetition, IsNarrow, IsNarrowNumber, IsNarrowPlace}
-use Rattle.shot_repeat.specs.Values.{newer, last_written, IsDefined, fields_in, count_of, step_of, moved_from, given, all_given, AreDefined}
+use Rattle.shot_repeat.specs.Values.{newer, last_written, IsDefined, fields_in, shot_count, step_of, moved_from, given, all_given, AreDefined}
 use Rattle.shot_repeat.specs.declared.record.PackRecord.{PackRecord}
 use Rattle.shot_repeat.specs.declared.record.Repetition.{Repetition}
 use Rattle.shot_repeat.proofs.Gifts.{some_given}
@@ -126,10 +126,10 @@ values_defined before r f h = record {
 -- ---- the shots
 
 given_is : (before : List PackRecord) (r : PackRecord) (f : ShotFields) (o : Option Repetition) (gs : List ShotFields)
-    → fields_in before r ≡ f → r.repetition ≡ o → moved_from f (step_of o) 0 (count_of o) ≡ gs → given before r ≡ gs
+    → fields_in before r ≡ f → r.repetition ≡ o → moved_from f (step_of o) 0 (shot_count o) ≡ gs → given before r ≡ gs
 given_is before r f o gs e g h =
-    ap (λ (p : Option Repetition). moved_from (fields_in before r) (step_of p) 0 (count_of p)) g
-    ∙ (ap (λ (k : ShotFields). moved_from k (step_of o) 0 (count_of o)) e ∙ h)
+    ap (λ (p : Option Repetition). moved_from (fields_in before r) (step_of p) 0 (shot_count p)) g
+    ∙ (ap (λ (k : ShotFields). moved_from k (step_of o) 0 (shot_count o)) e ∙ h)
 
 taken : {X : Type 0} (x : X) (xs : List X) (n : ℕ) → 1 ≤ n → take n (x ∷ xs) ++ drop (n - 1) xs ≡ x ∷ xs
 taken x xs zero h = absurd (omega arith)
@@ -153,12 +153,12 @@ says l d before last zero (f ∷ fs) h p g =
     let deltas = record_deltas last f o in
     let values = values_more before last f o l d h p g.0 g.1 in
     let fields = values_fields before r f values deltas.0 deltas.1 in
-    let own = given_is before r f o (take (count_of o) (f ∷ fs)) fields deltas.2 (stands l d f fs g).given in
-    let rest = says l d (before ++ r ∷ []) (Some f) (count_of o - 1) fs values (g.0, g.1) g.2 in
+    let own = given_is before r f o (take (shot_count o) (f ∷ fs)) fields deltas.2 (stands l d f fs g).given in
+    let rest = says l d (before ++ r ∷ []) (Some f) (shot_count o - 1) fs values (g.0, g.1) g.2 in
     record {
       defined = (values_defined before r f values, rest.defined);
-      shots = ap (λ (t : List ShotFields). t ++ all_given (before ++ r ∷ []) (records_of (Some f) (count_of o - 1) fs)) own
-          ∙ (ap (λ (t : List ShotFields). take (count_of o) (f ∷ fs) ++ t) rest.shots ∙ taken f fs (count_of o) (some_given o));
+      shots = ap (λ (t : List ShotFields). t ++ all_given (before ++ r ∷ []) (records_of (Some f) (shot_count o - 1) fs)) own
+          ∙ (ap (λ (t : List ShotFields). take (shot_count o) (f ∷ fs) ++ t) rest.shots ∙ taken f fs (shot_count o) (some_given o));
     }
 
 -- ---- each record is narrow, and gives few enough shots
@@ -231,11 +231,11 @@ narrow_records l d last zero [] p q h g = λ k x below. absurd (omega arith)
 narrow_records l d last (suc skip) [] p q h g = λ k x below. absurd (omega arith)
 narrow_records l d last (suc skip) (f ∷ fs) p q h g = narrow_records l d last skip fs p q h.1 g.2
 narrow_records l d last zero (f ∷ fs) p q h g =
-    All-cons IsNarrow (packed_record last f (repetition_of (f ∷ fs))) (records_of (Some f) (count_of (repetition_of (f ∷ fs)) - 1) fs)
+    All-cons IsNarrow (packed_record last f (repetition_of (f ∷ fs))) (records_of (Some f) (shot_count (repetition_of (f ∷ fs)) - 1) fs)
     (narrow_record last f (repetition_of (f ∷ fs)) h.0 (omega (arith, g.0, p)) (omega (arith, g.1, q)) (narrow_repetition (f ∷ fs) h))
-    (narrow_records l d (Some f) (count_of (repetition_of (f ∷ fs)) - 1) fs p q h.1 g.2)
+    (narrow_records l d (Some f) (shot_count (repetition_of (f ∷ fs)) - 1) fs p q h.1 g.2)
 
-few_record : (last : Option ShotFields) (f : ShotFields) (o : Option Repetition) → count_of o ≤ 16777216 → HasFew (packed_record last f o)
+few_record : (last : Option ShotFields) (f : ShotFields) (o : Option Repetition) → shot_count o ≤ 16777216 → HasFew (packed_record last f o)
 few_record None f o h = h
 few_record (Some e) f o h = h
 
@@ -244,9 +244,9 @@ few_records l d last zero [] g = λ k x below. absurd (omega arith)
 few_records l d last (suc skip) [] g = λ k x below. absurd (omega arith)
 few_records l d last (suc skip) (f ∷ fs) g = few_records l d last skip fs g.2
 few_records l d last zero (f ∷ fs) g =
-    All-cons HasFew (packed_record last f (repetition_of (f ∷ fs))) (records_of (Some f) (count_of (repetition_of (f ∷ fs)) - 1) fs)
+    All-cons HasFew (packed_record last f (repetition_of (f ∷ fs))) (records_of (Some f) (shot_count (repetition_of (f ∷ fs)) - 1) fs)
     (few_record last f (repetition_of (f ∷ fs)) (stands l d f fs g).few)
-    (few_records l d (Some f) (count_of (repetition_of (f ∷ fs)) - 1) fs g.2)
+    (few_records l d (Some f) (shot_count (repetition_of (f ∷ fs)) - 1) fs g.2)
 
 -- ---- the text
 

@@ -17,15 +17,15 @@ use Rattle.layout_model.specs.declared.pair.Pair.{Pair}
 use Rattle.oas_lex.specs.ShotLaws.{IsNarrowPair}
 use Rattle.oas_lex.specs.ShotText.{IsUnit, head, end, fields_of}
 use Rattle.oas_lex.specs.declared.fields.ShotFields.{ShotFields}
-use Rattle.shot_reader.specs.Reading.{IsPairOf, Agrees}
+use Rattle.shot_reader.specs.Reading.{IsPairOf, AgreesWithPair}
 use Rattle.shot_reader.specs.Refusals.{BeginsEnd}
 use Rattle.shot_repeat.specs.Giving.{IsGivenBy}
 use Rattle.shot_repeat.specs.Modal.{updated, AreLast, IsShown}
 use Rattle.shot_repeat.specs.Packed.{IsPackedFile}
 use Rattle.shot_repeat.specs.Progress.{IsUnspelled, AreKept, IsJudged, HasRead, first_of, layer_in, datatype_in}
 use Rattle.shot_repeat.specs.Records.{IsNarrow, IsNarrowNumber, record_text}
-use Rattle.shot_repeat.specs.Refusals.{IsWhole, IsSpelled, first_pair, HasFirstPair, count_given, IsValueFault, IsRecordFault, IsReadUpTo, IsFirstFault}
-use Rattle.shot_repeat.specs.Values.{newer, IsDefined, fields_in, count_of, step_of, moved_from, given, all_given}
+use Rattle.shot_repeat.specs.Refusals.{IsWholePackRecord, IsPackSpelled, first_pair, HasFirstPair, count_given, IsPackValueFault, IsPackRecordFault, ArePackRecordsReadUpTo, IsFirstPackFault}
+use Rattle.shot_repeat.specs.Values.{newer, IsDefined, fields_in, shot_count, step_of, moved_from, given, all_given}
 use Rattle.shot_repeat.specs.declared.modal.Modal.{Modal}
 use Rattle.shot_repeat.specs.declared.reading.Progress.{Progress}
 use Rattle.shot_repeat.specs.declared.record.PackRecord.{PackRecord}
@@ -57,20 +57,20 @@ shown before p so_far m r f k e s =
     let lasts = kept_more before p so_far m r k e in
     record { fields = shown_fields before m r f lasts s; defined = shown_defined before m r f lasts s }
 
-agrees_by : (a b : Option Pair) (f g : ShotFields) → a ≡ b → f ≡ g → Agrees a f.layer f.datatype → Agrees b g.layer g.datatype
-agrees_by a b f g p q h = subst (λ (k : ShotFields). Agrees b k.layer k.datatype) q (subst (λ (c : Option Pair). Agrees c f.layer f.datatype) p h)
+agrees_by : (a b : Option Pair) (f g : ShotFields) → a ≡ b → f ≡ g → AgreesWithPair a f.layer f.datatype → AgreesWithPair b g.layer g.datatype
+agrees_by a b f g p q h = subst (λ (k : ShotFields). AgreesWithPair b k.layer k.datatype) q (subst (λ (c : Option Pair). AgreesWithPair c f.layer f.datatype) p h)
 
 pub pair_shown : (before : List PackRecord) (p : Progress) (so_far : ℕ) (r : PackRecord) (f : ShotFields)
-    → AreKept before p so_far → Shown before p so_far r f → Agrees p.first f.layer f.datatype → HasFirstPair before r
+    → AreKept before p so_far → Shown before p so_far r f → AgreesWithPair p.first f.layer f.datatype → HasFirstPair before r
 pair_shown before p so_far r f k s h = agrees_by p.first (first_pair before) f (fields_in before r) k.first s.fields h
 
 pub pair_back : (before : List PackRecord) (p : Progress) (so_far : ℕ) (r : PackRecord) (f : ShotFields)
-    → AreKept before p so_far → Shown before p so_far r f → HasFirstPair before r → Agrees p.first f.layer f.datatype
+    → AreKept before p so_far → Shown before p so_far r f → HasFirstPair before r → AgreesWithPair p.first f.layer f.datatype
 pair_back before p so_far r f k s h = agrees_by (first_pair before) p.first (fields_in before r) f (sym k.first) (sym s.fields) h
 
 pub judged_by : (before : List PackRecord) (p : Progress) (so_far : ℕ) (r : PackRecord) (f : ShotFields)
-    → AreKept before p so_far → Shown before p so_far r f → Agrees p.first f.layer f.datatype
-    → count_of r.repetition ≤ 16777216 → so_far + count_of r.repetition ≤ 33554432 → IsJudged before r f
+    → AreKept before p so_far → Shown before p so_far r f → AgreesWithPair p.first f.layer f.datatype
+    → shot_count r.repetition ≤ 16777216 → so_far + shot_count r.repetition ≤ 33554432 → IsJudged before r f
 judged_by before p so_far r f k s h own all = record {
   fields = s.fields;
   defined = s.defined;
@@ -79,8 +79,8 @@ judged_by before p so_far r f k s h own all = record {
 }
 
 pub too_many : (before : List PackRecord) (p : Progress) (so_far at : ℕ) (r : PackRecord) (f : ShotFields)
-    → AreKept before p so_far → Shown before p so_far r f → Agrees p.first f.layer f.datatype
-    → (16777216 < count_of r.repetition) ⊎ (33554432 < so_far + count_of r.repetition) → IsValueFault before r at (faults.Many at)
+    → AreKept before p so_far → Shown before p so_far r f → AgreesWithPair p.first f.layer f.datatype
+    → (16777216 < shot_count r.repetition) ⊎ (33554432 < so_far + shot_count r.repetition) → IsPackValueFault before r at (faults.Many at)
 too_many before p so_far at r f k s h (inl own) = inr (s.defined, inr (pair_shown before p so_far r f k s h, inl (refl, λ few. omega (arith, few.own, own))))
 too_many before p so_far at r f k s h (inr all) = inr
     (s.defined, inr (pair_shown before p so_far r f k s h, inl (refl, λ few. omega (arith, few.all, all, k.count))))
@@ -88,39 +88,39 @@ too_many before p so_far at r f k s h (inr all) = inr
 -- ---- the record's shots
 
 given_is : (before : List PackRecord) (r : PackRecord) (f : ShotFields) (zs : List Trapezoid) → f ≡ fields_in before r
-    → IsGivenBy f (step_of r.repetition) (count_of r.repetition) zs
+    → IsGivenBy f (step_of r.repetition) (shot_count r.repetition) zs
     → map (fields_of (fields_in before r).layer (fields_in before r).datatype) zs ≡ given before r
 given_is before r f zs e g = subst
     (λ (k : ShotFields). map (fields_of k.layer k.datatype) zs ≡ moved_from k (step_of r.repetition) 0
-    (count_of r.repetition)) e g.are
+    (shot_count r.repetition)) e g.are
 
 given_by : (before : List PackRecord) (r : PackRecord) (f : ShotFields) (zs : List Trapezoid) → f ≡ fields_in before r
     → All IsShot zs → map (fields_of (fields_in before r).layer (fields_in before r).datatype) zs ≡ given before r
-    → IsGivenBy f (step_of r.repetition) (count_of r.repetition) zs
+    → IsGivenBy f (step_of r.repetition) (shot_count r.repetition) zs
 given_by before r f zs e legal are = record {
   legal = legal;
-  are = subst (λ (k : ShotFields). map (fields_of k.layer k.datatype) zs ≡ moved_from k (step_of r.repetition) 0 (count_of r.repetition)) (sym e) are;
+  are = subst (λ (k : ShotFields). map (fields_of k.layer k.datatype) zs ≡ moved_from k (step_of r.repetition) 0 (shot_count r.repetition)) (sym e) are;
 }
 
 pub not_legal : (before : List PackRecord) (r : PackRecord) (f : ShotFields) (at : ℕ) → IsJudged before r f
-    → ((zs : List Trapezoid) → IsGivenBy f (step_of r.repetition) (count_of r.repetition) zs → ⊥)
-    → IsValueFault before r at (faults.Illegal at)
+    → ((zs : List Trapezoid) → IsGivenBy f (step_of r.repetition) (shot_count r.repetition) zs → ⊥)
+    → IsPackValueFault before r at (faults.Illegal at)
 not_legal before r f at j none = inr (j.defined, inr (j.pair, inr (j.few, refl, λ l. none l.shots (given_by before r f l.shots j.fields l.legal l.are))))
 
 -- the fault of a record that is spelled
 pub value_fault : (before : List PackRecord) (rest after : List ℕ) (r : PackRecord) (at : ℕ) (bad : PackBad)
-    → IsNarrow r → rest ≡ record_text r ++ after → IsValueFault before r at bad → IsRecordFault before rest at bad
+    → IsNarrow r → rest ≡ record_text r ++ after → IsPackValueFault before r at bad → IsPackRecordFault before rest at bad
 value_fault before rest after r at bad n e v = inr (inr (inr (r, record { narrow = n; after = after; text = e }, v)))
 
 -- and of one that isn't
 unspelled_by : (before : List PackRecord) (rest : List ℕ) (at : ℕ) (bad : PackBad)
-    → ((bad ≡ faults.Spelling at) × IsWhole rest) ⊎ ((bad ≡ faults.Record at) × (IsWhole rest → ⊥))
-    → ((r : PackRecord) → IsSpelled rest r → ⊥) → (BeginsEnd rest → ⊥) → IsRecordFault before rest at bad
+    → ((bad ≡ faults.Spelling at) × IsWholePackRecord rest) ⊎ ((bad ≡ faults.Record at) × (IsWholePackRecord rest → ⊥))
+    → ((r : PackRecord) → IsPackSpelled rest r → ⊥) → (BeginsEnd rest → ⊥) → IsPackRecordFault before rest at bad
 unspelled_by before rest at bad (inl a) none h = inr (inr (inl (a.0, a.1, none)))
 unspelled_by before rest at bad (inr a) none h = inr (inl (a.0, h, a.1))
 
 pub unspelled : (before : List PackRecord) (rest : List ℕ) (at : ℕ) (bad : PackBad) → IsUnspelled rest at bad
-    → (BeginsEnd rest → ⊥) → IsRecordFault before rest at bad
+    → (BeginsEnd rest → ⊥) → IsPackRecordFault before rest at bad
 unspelled before rest at bad u h = unspelled_by before rest at bad u.cause u.none h
 
 -- ---- one more record
@@ -131,7 +131,7 @@ first_more [] p so_far r f k e = ap (λ (o : Option Pair). Some (first_of o f)) 
 first_more (b ∷ before) p so_far r f k e = ap (λ (o : Option Pair). Some (first_of o f)) k.first
 
 -- a pair that is in effect, where it agrees with the first
-first_layer : (first : Option Pair) (f : ShotFields) → Agrees first f.layer f.datatype
+first_layer : (first : Option Pair) (f : ShotFields) → AgreesWithPair first f.layer f.datatype
     → ((first_of first f).layer ≡ f.layer) × ((first_of first f).datatype ≡ f.datatype)
 first_layer None f h = (refl, refl)
 first_layer (Some own) f h = h
@@ -179,9 +179,9 @@ not_nil [] (z ∷ zs) h e = absurd (cc)
 not_nil (x ∷ xs) zs h e = absurd (cc)
 
 count_more : (records : List PackRecord) (r : PackRecord) (xs zs : List Trapezoid) → length xs ≡ count_given records
-    → length zs ≡ count_of r.repetition → length (xs ++ zs) ≡ count_given (records ++ r ∷ [])
+    → length zs ≡ shot_count r.repetition → length (xs ++ zs) ≡ count_given (records ++ r ∷ [])
 count_more records r xs zs h g =
-    omega (arith, length-append xs zs, h, g, sum_by-append (λ (s : PackRecord). count_of s.repetition) records (r ∷ []))
+    omega (arith, length-append xs zs, h, g, sum_by-append (λ (s : PackRecord). shot_count s.repetition) records (r ∷ []))
 
 text_more : (unit : ℕ) (records : List PackRecord) (r : PackRecord) (bytes rest after : List ℕ)
     → bytes ≡ head unit ++ (flat_map record_text records ++ rest) → rest ≡ record_text r ++ after
@@ -195,14 +195,14 @@ text_more unit records r bytes rest after e f =
 
 -- the shots of the record are one or more
 pub given_some : (f : ShotFields) (r : PackRecord) (zs : List Trapezoid)
-    → IsGivenBy f (step_of r.repetition) (count_of r.repetition) zs → length zs ≡ count_of r.repetition
+    → IsGivenBy f (step_of r.repetition) (shot_count r.repetition) zs → length zs ≡ shot_count r.repetition
 given_some f r zs g =
-    sym (length_map (fields_of f.layer f.datatype) zs) ∙ (ap length g.are ∙ length_moved f (step_of r.repetition) 0 (count_of r.repetition))
+    sym (length_map (fields_of f.layer f.datatype) zs) ∙ (ap length g.are ∙ length_moved f (step_of r.repetition) 0 (shot_count r.repetition))
 
 are_more : (records : List PackRecord) (r : PackRecord) (first : Option Pair) (f : ShotFields)
     (shots zs : List Trapezoid) → IsPairOf first shots
     → map (fields_of (layer_in first) (datatype_in first)) shots ≡ all_given [] records
-    → Agrees first f.layer f.datatype → f ≡ fields_in records r → IsGivenBy f (step_of r.repetition) (count_of r.repetition) zs
+    → AgreesWithPair first f.layer f.datatype → f ≡ fields_in records r → IsGivenBy f (step_of r.repetition) (shot_count r.repetition) zs
     → map (fields_of (first_of first f).layer (first_of first f).datatype) (shots ++ zs) ≡ all_given [] (records ++ r ∷ [])
 are_more records r first f shots zs h are agrees e g =
     let own = fields_of (first_of first f).layer (first_of first f).datatype in
@@ -211,7 +211,7 @@ are_more records r first f shots zs h are agrees e g =
     let last : map own zs ≡ given records r =
     ap (λ (n : ℕ). map (fields_of n (first_of first f).datatype) zs) pairs.0
     ∙ (ap (λ (n : ℕ). map (fields_of f.layer n) zs) pairs.1
-    ∙ (g.are ∙ ap (λ (k : ShotFields). moved_from k (step_of r.repetition) 0 (count_of r.repetition)) e)) in
+    ∙ (g.are ∙ ap (λ (k : ShotFields). moved_from k (step_of r.repetition) 0 (shot_count r.repetition)) e)) in
     map-append own shots zs
     ∙ (ap (λ (t : List ShotFields). t ++ map own zs) front
     ∙ (ap (λ (t : List ShotFields). all_given [] records ++ t) last ∙ sym (all_more [] records r)))
@@ -220,7 +220,7 @@ pub read_more : (bytes : List ℕ) (unit : ℕ) (records : List PackRecord) (p q
     (shots later zs : List Trapezoid) (r : PackRecord) (f : ShotFields) (m : Modal) (next : ℕ)
     → HasRead bytes unit records p shots → IsNarrow r → drop p.at bytes ≡ record_text r ++ drop next bytes
     → next ≤ length bytes → m ≡ updated p.modal r → IsJudged records r f
-    → later ≡ shots ++ zs → IsGivenBy f (step_of r.repetition) (count_of r.repetition) zs → q.at ≡ next → q.first ≡ Some (first_of p.first f) → q.modal ≡ m
+    → later ≡ shots ++ zs → IsGivenBy f (step_of r.repetition) (shot_count r.repetition) zs → q.at ≡ next → q.first ≡ Some (first_of p.first f) → q.modal ≡ m
     → HasRead bytes unit (records ++ r ∷ []) q later
 read_more bytes unit records p q shots later zs r f m next h n text within e j put g at first modal =
     let s : IsShown m r f = subst (λ (k : ShotFields). IsShown m r k) (sym j.fields)
@@ -268,7 +268,7 @@ none_read bytes unit p shots within e first last none = record {
 
 -- what was read is a reading up to a place
 pub read_up : (bytes : List ℕ) (unit : ℕ) (records : List PackRecord) (p : Progress) (shots : List Trapezoid)
-    → IsUnit unit → HasRead bytes unit records p shots → IsReadUpTo bytes p.at records
+    → IsUnit unit → HasRead bytes unit records p shots → ArePackRecordsReadUpTo bytes p.at records
 read_up bytes unit records p shots u h = record {
   within = h.within;
   unit = unit;
@@ -278,7 +278,7 @@ read_up bytes unit records p shots u h = record {
       (take-append-drop p.at bytes ∙ (h.text ∙ sym (append_assoc (head unit) (flat_map record_text records) (drop p.at bytes))));
 }
 
-own_agrees : (pair : Option Pair) → Agrees pair (layer_in pair) (datatype_in pair)
+own_agrees : (pair : Option Pair) → AgreesWithPair pair (layer_in pair) (datatype_in pair)
 own_agrees None = tt
 own_agrees (Some p) = (refl, refl)
 
@@ -308,7 +308,7 @@ read_file bytes unit records p shots u h e = record {
 
 pub read_fault : (bytes : List ℕ) (unit : ℕ) (records : List PackRecord) (p : Progress) (shots : List Trapezoid)
     (bad : PackBad) → IsUnit unit → HasRead bytes unit records p shots
-    → IsRecordFault records (drop p.at bytes) p.at bad → IsFirstFault bytes bad
+    → IsPackRecordFault records (drop p.at bytes) p.at bad → IsFirstPackFault bytes bad
 read_fault bytes unit records p shots bad u h fault = inr (p.at, records, read_up bytes unit records p shots u h, fault)
 
 -- what is refused for no fault is refused for want of memory
@@ -334,28 +334,28 @@ kept_by before p so_far len k e = subst (λ (n : ℕ). AreKept before p n) e k
 
 -- the step and the number of shots that were taken from the record
 pub given_as : (f : ShotFields) (r : PackRecord) (step : Point) (count : ℕ) (zs : List Trapezoid)
-    → step ≡ step_of r.repetition → count ≡ count_of r.repetition → IsGivenBy f step count zs
-    → IsGivenBy f (step_of r.repetition) (count_of r.repetition) zs
+    → step ≡ step_of r.repetition → count ≡ shot_count r.repetition → IsGivenBy f step count zs
+    → IsGivenBy f (step_of r.repetition) (shot_count r.repetition) zs
 given_as f r step count zs e g h = subst (λ (n : ℕ). IsGivenBy f (step_of r.repetition) n zs) g (subst (λ (s : Point). IsGivenBy f s count zs) e h)
 
 pub none_as : (f : ShotFields) (r : PackRecord) (step : Point) (count : ℕ) → step ≡ step_of r.repetition
-    → count ≡ count_of r.repetition → ((zs : List Trapezoid) → IsGivenBy f step count zs → ⊥) → (zs : List Trapezoid)
-    → IsGivenBy f (step_of r.repetition) (count_of r.repetition) zs → ⊥
+    → count ≡ shot_count r.repetition → ((zs : List Trapezoid) → IsGivenBy f step count zs → ⊥) → (zs : List Trapezoid)
+    → IsGivenBy f (step_of r.repetition) (shot_count r.repetition) zs → ⊥
 none_as f r step count e g none = λ zs h. none zs
     (subst (λ (n : ℕ). IsGivenBy f step n zs) (sym g)
-    (subst (λ (s : Point). IsGivenBy f s (count_of r.repetition) zs) (sym e) h))
+    (subst (λ (s : Point). IsGivenBy f s (shot_count r.repetition) zs) (sym e) h))
 
 pub illegal_fault : (before : List PackRecord) (rest after : List ℕ) (r : PackRecord) (f : ShotFields) (step : Point)
     (count at : ℕ) (bad : PackBad) → IsNarrow r → rest ≡ record_text r ++ after → IsJudged before r f
-    → step ≡ step_of r.repetition → count ≡ count_of r.repetition
-    → (bad ≡ faults.Illegal at) × ((zs : List Trapezoid) → IsGivenBy f step count zs → ⊥) → IsRecordFault before rest at bad
+    → step ≡ step_of r.repetition → count ≡ shot_count r.repetition
+    → (bad ≡ faults.Illegal at) × ((zs : List Trapezoid) → IsGivenBy f step count zs → ⊥) → IsPackRecordFault before rest at bad
 illegal_fault before rest after r f step count at bad n e j s m a =
     value_fault before rest after r at bad n e
-    (subst (λ (b : PackBad). IsValueFault before r at b) (sym a.0)
+    (subst (λ (b : PackBad). IsPackValueFault before r at b) (sym a.0)
     (not_legal before r f at j (none_as f r step count s m a.1)))
 
 -- the bytes end where a record is to begin
-pub cut_fault : (before : List PackRecord) (rest : List ℕ) (at : ℕ) → rest ≡ [] → IsRecordFault before rest at (faults.Record at)
+pub cut_fault : (before : List PackRecord) (rest : List ℕ) (at : ℕ) → rest ≡ [] → IsPackRecordFault before rest at (faults.Record at)
 cut_fault before rest at e =
     inr (inl (
       refl,
@@ -365,6 +365,6 @@ cut_fault before rest at e =
     ))
 
 -- END goes on otherwise
-pub end_fault : (before : List PackRecord) (rest : List ℕ) (at : ℕ) → get_or rest 0 0 ≡ 2 → rest ≢ end → IsRecordFault before rest at (faults.End at)
+pub end_fault : (before : List PackRecord) (rest : List ℕ) (at : ℕ) → get_or rest 0 0 ≡ 2 → rest ≢ end → IsPackRecordFault before rest at (faults.End at)
 end_fault before [] at e n = absurd (omega arith)
 end_fault before (x ∷ rest) at e n = inl (refl, (rest, ap (λ (b : ℕ). b ∷ rest) e), n)

@@ -7,7 +7,7 @@ use Rattle.std.proofs.lemmas.List.Elements.{All-cons}
 use Rattle.shot_reader.specs.Refusals.{IsNumber}
 use Rattle.shot_reader.proofs.ForCallers.{byte_is}
 use Rattle.shot_repeat.specs.Numbers.{NumbersAt, Left}
-use Rattle.shot_repeat.specs.Refusals.{has, HasNumbers, IsRepetition, IsRepetitionIf, IsWhole}
+use Rattle.shot_repeat.specs.Refusals.{has, HasWrittenCount, IsRepetition, IsRepetitionIf, IsWholePackRecord}
 use Rattle.shot_repeat.proofs.Texts.{second_is, after_two, two_there}
 
 none_there : All IsNumber []
@@ -130,25 +130,25 @@ repeated bytes at delta next h nine d s odd =
 
 -- ---- a whole record
 
-pub whole_id : (bytes : List ℕ) (at : ℕ) (w : IsWhole (drop at bytes)) → get_or bytes at 0 ≡ w.id
+pub whole_id : (bytes : List ℕ) (at : ℕ) (w : IsWholePackRecord (drop at bytes)) → get_or bytes at 0 ≡ w.id
 whole_id bytes at w = byte_is bytes (w.info ∷ concat w.numbers ++ (w.repetition ++ w.after)) at w.id w.text
 
-pub whole_info : (bytes : List ℕ) (at : ℕ) (w : IsWhole (drop at bytes)) → get_or bytes (at + 1) 0 ≡ w.info
+pub whole_info : (bytes : List ℕ) (at : ℕ) (w : IsWholePackRecord (drop at bytes)) → get_or bytes (at + 1) 0 ≡ w.info
 whole_info bytes at w = second_is bytes (concat w.numbers ++ (w.repetition ++ w.after)) at w.id w.info w.text
 
-pub whole_room : (bytes : List ℕ) (at : ℕ) → IsWhole (drop at bytes) → at + 2 ≤ length bytes
+pub whole_room : (bytes : List ℕ) (at : ℕ) → IsWholePackRecord (drop at bytes) → at + 2 ≤ length bytes
 whole_room bytes at w = two_there bytes (concat w.numbers ++ (w.repetition ++ w.after)) at w.id w.info w.text
 
-numbers_are : (bytes : List ℕ) (at : ℕ) (w : IsWhole (drop at bytes)) → HasNumbers (get_or bytes at 0) (get_or bytes (at + 1) 0) (length w.numbers)
+numbers_are : (bytes : List ℕ) (at : ℕ) (w : IsWholePackRecord (drop at bytes)) → HasWrittenCount (get_or bytes at 0) (get_or bytes (at + 1) 0) (length w.numbers)
 numbers_are bytes at w =
-    subst (λ (n : ℕ). HasNumbers n (get_or bytes (at + 1) 0) (length w.numbers)) (sym (whole_id bytes at w))
-    (subst (λ (n : ℕ). HasNumbers w.id n (length w.numbers)) (sym (whole_info bytes at w)) w.count)
+    subst (λ (n : ℕ). HasWrittenCount n (get_or bytes (at + 1) 0) (length w.numbers)) (sym (whole_id bytes at w))
+    (subst (λ (n : ℕ). HasWrittenCount w.id n (length w.numbers)) (sym (whole_info bytes at w)) w.count)
 
-pub whole_has : (bytes : List ℕ) (at id info : ℕ) (w : IsWhole (drop at bytes)) → id ≡ get_or bytes at 0
-    → info ≡ get_or bytes (at + 1) 0 → HasNumbers id info (length w.numbers)
+pub whole_has : (bytes : List ℕ) (at id info : ℕ) (w : IsWholePackRecord (drop at bytes)) → id ≡ get_or bytes at 0
+    → info ≡ get_or bytes (at + 1) 0 → HasWrittenCount id info (length w.numbers)
 whole_has bytes at id info w e f = rw (e, f) (numbers_are bytes at w)
 
-pub whole_left : (bytes : List ℕ) (at count : ℕ) (w : IsWhole (drop at bytes)) → length w.numbers ≡ count
+pub whole_left : (bytes : List ℕ) (at count : ℕ) (w : IsWholePackRecord (drop at bytes)) → length w.numbers ≡ count
     → Left (drop (at + 2) bytes) count (w.repetition ++ w.after)
 whole_left bytes at count w m = record {
   numbers = w.numbers;
@@ -161,7 +161,7 @@ repeats_by : (b : Bool) (rep : List ℕ) → b ≡ true → IsRepetitionIf b rep
 repeats_by true rep e h = h
 repeats_by false rep e h = absurd (cc)
 
-pub whole_repeats : (bytes : List ℕ) (at info : ℕ) (w : IsWhole (drop at bytes)) → info ≡ get_or bytes (at + 1) 0
+pub whole_repeats : (bytes : List ℕ) (at info : ℕ) (w : IsWholePackRecord (drop at bytes)) → info ≡ get_or bytes (at + 1) 0
     → has info 4 ≡ true → IsRepetition w.repetition
 whole_repeats bytes at info w e h = repeats_by (has w.info 4) w.repetition (ap (λ (n : ℕ). has n 4) (sym (e ∙ whole_info bytes at w)) ∙ h) w.repeats
 
@@ -174,8 +174,8 @@ two_more bytes at h =
 
 -- a record that is shown by its bytes
 pub whole_by : (bytes : List ℕ) (at id info count next : ℕ) (rep after : List ℕ) → at + 2 ≤ length bytes
-    → id ≡ get_or bytes at 0 → info ≡ get_or bytes (at + 1) 0 → info < 128 → HasNumbers id info count
-    → NumbersAt bytes (at + 2) count next → IsRepetitionIf (has info 4) rep → drop next bytes ≡ rep ++ after → IsWhole (drop at bytes)
+    → id ≡ get_or bytes at 0 → info ≡ get_or bytes (at + 1) 0 → info < 128 → HasWrittenCount id info count
+    → NumbersAt bytes (at + 2) count next → IsRepetitionIf (has info 4) rep → drop next bytes ≡ rep ++ after → IsWholePackRecord (drop at bytes)
 whole_by bytes at id info count next rep after room e f low h n r text = record {
   id = id;
   info = info;

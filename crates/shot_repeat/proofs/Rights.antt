@@ -9,7 +9,7 @@ use Rattle.shot_reader.proofs.ForCallers.{unit_small}
 use Rattle.shot_repeat.specs.Packed.{HasFew}
 use Rattle.shot_repeat.specs.Records.{IsNarrow, record_text}
 use Rattle.shot_repeat.specs.Values.{AreDefined}
-use Rattle.shot_repeat.specs.Refusals.{IsWhole, IsSpelled, IsRight, AreRight, IsValueFault, IsRecordFault, IsReadUpTo, IsFirstFault}
+use Rattle.shot_repeat.specs.Refusals.{IsWholePackRecord, IsPackSpelled, IsRight, AreRight, IsPackValueFault, IsPackRecordFault, ArePackRecordsReadUpTo, IsFirstPackFault}
 use Rattle.shot_repeat.specs.declared.record.PackRecord.{PackRecord}
 use Rattle.shot_repeat.specs.declared.refusing.PackBad.{PackBad}
 use Rattle.shot_repeat.specs.declared.refusing.PackBad.TheVariants as faults
@@ -44,22 +44,22 @@ right_defined before (r ∷ rs) h = (h.0.defined, right_defined (before ++ r ∷
 abbrev pub Stops : List PackRecord → List ℕ → Type 0
 Stops before rest = (r : PackRecord) (after : List ℕ) → IsRight before r → rest ≡ record_text r ++ after → ⊥
 
-spelled_whole : (rest : List ℕ) (r : PackRecord) → IsSpelled rest r → IsWhole rest
+spelled_whole : (rest : List ℕ) (r : PackRecord) → IsPackSpelled rest r → IsWholePackRecord rest
 spelled_whole rest r s = text_whole r rest s.after s.narrow s.text
 
-spelled_same : (rest : List ℕ) (r s : PackRecord) → IsSpelled rest r → IsSpelled rest s → r ≡ s
+spelled_same : (rest : List ℕ) (r s : PackRecord) → IsPackSpelled rest r → IsPackSpelled rest s → r ≡ s
 spelled_same rest r s a b = (one_record r s a.after b.after a.narrow b.narrow (sym a.text ∙ b.text)).0
 
-spelled_by : (before : List PackRecord) (rest : List ℕ) (r : PackRecord) (after : List ℕ) → IsRight before r → rest ≡ record_text r ++ after → IsSpelled rest r
+spelled_by : (before : List PackRecord) (rest : List ℕ) (r : PackRecord) (after : List ℕ) → IsRight before r → rest ≡ record_text r ++ after → IsPackSpelled rest r
 spelled_by before rest r after h e = record { narrow = h.narrow; after = after; text = e }
 
-value_wrong : (before : List PackRecord) (r : PackRecord) (at : ℕ) (bad : PackBad) → IsValueFault before r at bad → IsRight before r → ⊥
+value_wrong : (before : List PackRecord) (r : PackRecord) (at : ℕ) (bad : PackBad) → IsPackValueFault before r at bad → IsRight before r → ⊥
 value_wrong before r at bad (inl a) h = a.1 h.defined
 value_wrong before r at bad (inr (d, inl a)) h = a.1 h.pair
 value_wrong before r at bad (inr (d, inr (p, inl a))) h = a.1 h.few
 value_wrong before r at bad (inr (d, inr (p, inr a))) h = a.2 h.legal
 
-pub fault_stops : (before : List PackRecord) (rest : List ℕ) (at : ℕ) (bad : PackBad) → IsRecordFault before rest at bad → Stops before rest
+pub fault_stops : (before : List PackRecord) (rest : List ℕ) (at : ℕ) (bad : PackBad) → IsPackRecordFault before rest at bad → Stops before rest
 fault_stops before rest at bad (inl a) = λ r after h e. whole_not_end rest (text_whole r rest after h.narrow e) a.1
 fault_stops before rest at bad (inr (inl a)) = λ r after h e. a.2 (text_whole r rest after h.narrow e)
 fault_stops before rest at bad (inr (inr (inl a))) = λ r after h e. a.2 r (spelled_by before rest r after h e)
@@ -87,14 +87,14 @@ meet before (v ∷ ys) (z ∷ zs) ends other x y h g p q s t e =
 
 -- ---- the file
 
-pub up_whole : (bytes : List ℕ) (at : ℕ) (records : List PackRecord) (u : IsReadUpTo bytes at records)
+pub up_whole : (bytes : List ℕ) (at : ℕ) (records : List PackRecord) (u : ArePackRecordsReadUpTo bytes at records)
     → bytes ≡ head u.unit ++ (flat_map record_text records ++ drop at bytes)
 up_whole bytes at records u =
     sym (take-append-drop at bytes) ∙ (ap (λ (t : List ℕ). t ++ drop at bytes) u.text ∙ append_assoc (head u.unit)
     (flat_map record_text records) (drop at bytes))
 
-pub up_same : (bytes : List ℕ) (at to : ℕ) (rs ss : List PackRecord) (u : IsReadUpTo bytes at rs)
-    (v : IsReadUpTo bytes to ss) → Stops rs (drop at bytes) → Stops ss (drop to bytes)
+pub up_same : (bytes : List ℕ) (at to : ℕ) (rs ss : List PackRecord) (u : ArePackRecordsReadUpTo bytes at rs)
+    (v : ArePackRecordsReadUpTo bytes to ss) → Stops rs (drop at bytes) → Stops ss (drop to bytes)
     → (u.unit ≡ v.unit) × (rs ≡ ss) × (drop at bytes ≡ drop to bytes)
 up_same bytes at to rs ss u v s t =
     let whole = head_peel u.unit v.unit (flat_map record_text rs ++ drop at bytes)
@@ -108,8 +108,8 @@ at_one bytes at to h g e = omega (arith, length-drop at bytes, length-drop to by
 
 -- ---- one fault
 
-value_one : (before : List PackRecord) (r : PackRecord) (at : ℕ) (bad other : PackBad) → IsValueFault before r at bad
-    → IsValueFault before r at other → bad ≡ other
+value_one : (before : List PackRecord) (r : PackRecord) (at : ℕ) (bad other : PackBad) → IsPackValueFault before r at bad
+    → IsPackValueFault before r at other → bad ≡ other
 value_one before r at bad other (inl a) (inl b) = a.0 ∙ sym b.0
 value_one before r at bad other (inl a) (inr b) = absurd (a.1 b.0)
 value_one before r at bad other (inr a) (inl b) = absurd (b.1 a.0)
@@ -122,7 +122,7 @@ value_one before r at bad other (inr (d, inr (p, inr a))) (inr (f, inr (q, inl b
 value_one before r at bad other (inr (d, inr (p, inr a))) (inr (f, inr (q, inr b))) = a.1 ∙ sym b.1
 
 record_one : (before : List PackRecord) (rest : List ℕ) (at : ℕ) (bad other : PackBad)
-    → IsRecordFault before rest at bad → IsRecordFault before rest at other → bad ≡ other
+    → IsPackRecordFault before rest at bad → IsPackRecordFault before rest at other → bad ≡ other
 record_one before rest at bad other (inl a) (inl b) = a.0 ∙ sym b.0
 record_one before rest at bad other (inl a) (inr (inl b)) = absurd (b.1 a.1)
 record_one before rest at bad other (inl a) (inr (inr (inl b))) = absurd (whole_not_end rest b.1 a.1)
@@ -139,9 +139,9 @@ record_one before rest at bad other (inr (inr (inr a))) (inl b) = absurd (whole_
 record_one before rest at bad other (inr (inr (inr a))) (inr (inl b)) = absurd (b.2 (spelled_whole rest a.0 a.1))
 record_one before rest at bad other (inr (inr (inr a))) (inr (inr (inl b))) = absurd (b.2 a.0 a.1)
 record_one before rest at bad other (inr (inr (inr a))) (inr (inr (inr b))) =
-    value_one before a.0 at bad other a.2 (subst (λ (r : PackRecord). IsValueFault before r at other) (spelled_same rest b.0 a.0 b.1 a.1) b.2)
+    value_one before a.0 at bad other a.2 (subst (λ (r : PackRecord). IsPackValueFault before r at other) (spelled_same rest b.0 a.0 b.1 a.1) b.2)
 
-pub one_fault : (bytes : List ℕ) (bad other : PackBad) → IsFirstFault bytes bad → IsFirstFault bytes other → bad ≡ other
+pub one_fault : (bytes : List ℕ) (bad other : PackBad) → IsFirstPackFault bytes bad → IsFirstPackFault bytes other → bad ≡ other
 one_fault bytes bad other (inl a) (inl b) =
     let same : a.0 ≡ b.0 = omega (arith, b.2.longest a.0 a.2.begins, a.2.longest b.0 b.2.begins) in
     a.1 ∙ (ap faults.Head same ∙ sym b.1)
@@ -150,19 +150,19 @@ one_fault bytes bad other (inr a) (inl b) = absurd (b.2.no_head a.2.unit _ a.2.u
 one_fault bytes bad other (inr a) (inr b) =
     let same = up_same bytes a.0 b.0 a.1 b.1 a.2 b.2 (fault_stops a.1 (drop a.0 bytes) a.0 bad a.3) (fault_stops b.1 (drop b.0 bytes) b.0 other b.3) in
     let place : b.0 ≡ a.0 = at_one bytes a.0 b.0 a.2.within b.2.within same.2 in
-    let moved = subst (λ (n : ℕ). IsRecordFault b.1 (drop n bytes) n other) place b.3 in
-    let own = subst (λ (rs : List PackRecord). IsRecordFault rs (drop a.0 bytes) a.0 other) (sym same.1) moved in
+    let moved = subst (λ (n : ℕ). IsPackRecordFault b.1 (drop n bytes) n other) place b.3 in
+    let own = subst (λ (rs : List PackRecord). IsPackRecordFault rs (drop a.0 bytes) a.0 other) (sym same.1) moved in
     record_one a.1 (drop a.0 bytes) a.0 bad other a.3 own
 
-end_right : (before : List PackRecord) (rest : List ℕ) (at : ℕ) (bad : PackBad) → rest ≡ end → IsRecordFault before rest at bad → ⊥
+end_right : (before : List PackRecord) (rest : List ℕ) (at : ℕ) (bad : PackBad) → rest ≡ end → IsPackRecordFault before rest at bad → ⊥
 end_right before rest at bad e (inl a) = a.2 e
 end_right before rest at bad e (inr (inl a)) = a.1 (_, e)
 end_right before rest at bad e (inr (inr (inl a))) = whole_not_end rest a.1 (_, e)
 end_right before rest at bad e (inr (inr (inr a))) = whole_not_end rest (spelled_whole rest a.0 a.1) (_, e)
 
 -- bytes that were read up to END have no fault
-pub no_fault : (bytes : List ℕ) (at : ℕ) (records : List PackRecord) (bad : PackBad) → IsReadUpTo bytes at records
-    → drop at bytes ≡ end → IsFirstFault bytes bad → ⊥
+pub no_fault : (bytes : List ℕ) (at : ℕ) (records : List PackRecord) (bad : PackBad) → ArePackRecordsReadUpTo bytes at records
+    → drop at bytes ≡ end → IsFirstPackFault bytes bad → ⊥
 no_fault bytes at records bad u e (inl b) = b.2.no_head u.unit _ u.unit_fits (up_whole bytes at records u)
 no_fault bytes at records bad u e (inr b) =
     let same = up_same bytes at b.0 records b.1 u b.2 (end_stops records (drop at bytes) e) (fault_stops b.1 (drop b.0 bytes) b.0 bad b.3) in

@@ -16,7 +16,7 @@ use Rattle.oas_lex.proofs.ForCallers.{groups_last, groups_next, length_unsigned,
 use Rattle.shot_repeat.specs.Packing.{has_shape_of, is_step, step_between, followers, run_length, repetition_of, changed, changed_place, packed_record, records_of, packed_records, packed_text}
 use Rattle.shot_repeat.specs.PackingLaws.{TextIsShort}
 use Rattle.shot_repeat.specs.Records.{number_text, place_text, step_code, repetition_text, record_text}
-use Rattle.shot_repeat.specs.Values.{count_of}
+use Rattle.shot_repeat.specs.Values.{shot_count}
 use Rattle.shot_repeat.specs.declared.record.PackRecord.{PackRecord}
 use Rattle.shot_repeat.specs.declared.record.Repetition.{Repetition}
 use Rattle.shot_repeat.proofs.Followers.{run_few}
@@ -276,13 +276,13 @@ three : (n : ℕ) → nat_le 3 n ≡ true → 3 ≤ n
 three n e = grind (arith, nat_tests)
 
 repeats : (f : ShotFields) (fs : List ShotFields)
-    → length (repetition_text (repetition_of (f ∷ fs))) + total (drop (count_of (repetition_of (f ∷ fs)) - 1) fs) ≤ total fs
+    → length (repetition_text (repetition_of (f ∷ fs))) + total (drop (shot_count (repetition_of (f ∷ fs)) - 1) fs) ≤ total fs
 repeats f [] = omega arith
 repeats f (b ∷ rest) = by_test rest (nat_le 3 (run_length (f ∷ b ∷ rest))) refl
   where
     by_test : (rest : List ShotFields) (p : Bool) → nat_le 3 (run_length (f ∷ b ∷ rest)) ≡ p
         → length (repetition_text (cond p (Some (record { more = run_length (f ∷ b ∷ rest) - 2; x = b.x -ℤ f.x; y = b.y -ℤ f.y })) None))
-        + total (drop (count_of (cond p (Some (record { more = run_length (f ∷ b ∷ rest) - 2; x = b.x -ℤ f.x; y = b.y -ℤ f.y })) None) - 1) (b ∷ rest))
+        + total (drop (shot_count (cond p (Some (record { more = run_length (f ∷ b ∷ rest) - 2; x = b.x -ℤ f.x; y = b.y -ℤ f.y })) None) - 1) (b ∷ rest))
         ≤ total (b ∷ rest)
     by_test rest false t = omega arith
     by_test [] true t =
@@ -305,12 +305,12 @@ records_few last (suc skip) [] = omega arith
 records_few last (suc skip) (f ∷ fs) = records_few last skip fs
 records_few last zero (f ∷ fs) =
     let o = repetition_of (f ∷ fs) in
-    let rest = records_of (Some f) (count_of o - 1) fs in
+    let rest = records_of (Some f) (shot_count o - 1) fs in
     omega (
       arith,
       length-append (record_text (packed_record last f o)) (flat_map record_text rest),
       record_few last f o,
-      records_few (Some f) (count_of o - 1) fs,
+      records_few (Some f) (shot_count o - 1) fs,
       repeats f fs,
     )
 

@@ -6,14 +6,14 @@ use Rattle.std.specs.List.{concat}
 use Rattle.std.specs.Ordering.{int_eq}
 use Rattle.std.proofs.lemmas.List.{append-nil}
 use Rattle.std.proofs.lemmas.List.Elements.{All-append, All-cons}
-use Rattle.oas_lex.specs.Numbers.{IsWhole as IsSpelling, IsUnsigned}
+use Rattle.oas_lex.specs.Numbers.{IsWholeNumber as IsSpelling, IsUnsigned}
 use Rattle.oas_lex.specs.Spelling.{unsigned_text, signed_text}
 use Rattle.oas_lex.specs.ShotText.{id_for, delta_text}
 use Rattle.oas_lex.proofs.ForCallers.{unsigned_spells, signed_spells}
 use Rattle.shot_reader.specs.Refusals.{IsNumber, BeginsEnd}
 use Rattle.shot_repeat.specs.Records.{IsNarrowNumber, IsNarrowPlace, IsNarrowRepetition, IsNarrow, info_of, number_text}
 use Rattle.shot_repeat.specs.Records.{place_text, step_code, steps_text, repetition_text, record_text}
-use Rattle.shot_repeat.specs.Refusals.{has, one_or_none, written_of, HasNumbers, IsRepetition, IsRepetitionIf, IsWhole}
+use Rattle.shot_repeat.specs.Refusals.{has, one_or_none, written_of, HasWrittenCount, IsRepetition, IsRepetitionIf, IsWholePackRecord}
 use Rattle.shot_repeat.specs.declared.record.PackRecord.{PackRecord}
 use Rattle.shot_repeat.specs.declared.record.Repetition.{Repetition}
 use Rattle.shot_repeat.proofs.Texts.{opened, record_opens, info_says}
@@ -106,7 +106,7 @@ join {text} {other} {numbers} {rest} {n} {m} a b = record {
 abbrev count_by : Bool → Bool → ℕ → ℕ
 count_by p q written = written + cond p 0 1 + cond q 0 1
 
-numbers_by : (p q : Bool) (info : ℕ) → HasNumbers (cond p (cond q 20 25) (cond q 24 23)) info (count_by p q (written_of info))
+numbers_by : (p q : Bool) (info : ℕ) → HasWrittenCount (cond p (cond q 20 25) (cond q 24 23)) info (count_by p q (written_of info))
 numbers_by true true info = inl (refl, omega arith)
 numbers_by true false info = inr (inr (inr (refl, omega arith)))
 numbers_by false true info = inr (inr (inl (refl, omega arith)))
@@ -165,7 +165,7 @@ sum_by_parts : (a b c d e f g h i j k l m n : ℕ) → i ≡ a → j ≡ b → k
     → a + (b + (c + (d + (e + (f + (g + h)))))) ≡ i + j + k + l + m + n + e + f
 sum_by_parts a b c d e f g h i j k l m n p q r s t u = omega arith
 
-pub text_whole : (r : PackRecord) (rest after : List ℕ) → IsNarrow r → rest ≡ record_text r ++ after → IsWhole rest
+pub text_whole : (r : PackRecord) (rest after : List ℕ) → IsNarrow r → rest ≡ record_text r ++ after → IsWholePackRecord rest
 text_whole r rest after h e =
     let p = int_eq r.left_delta (pos 0) in
     let q = int_eq r.right_delta (pos 0) in
@@ -203,13 +203,13 @@ text_whole r rest after h e =
       text = e ∙ (record_opens r after ∙ ap (λ (t : List ℕ). id_for r.left_delta r.right_delta ∷ info_of r ∷ t) (sym text));
     }
 
-id_not_two : (id info count : ℕ) → HasNumbers id info count → id ≡ 2 → ⊥
+id_not_two : (id info count : ℕ) → HasWrittenCount id info count → id ≡ 2 → ⊥
 id_not_two id info count (inl h) e = omega (arith, h.0, e)
 id_not_two id info count (inr (inl h)) e = omega (arith, h.0, e)
 id_not_two id info count (inr (inr (inl h))) e = omega (arith, h.0, e)
 id_not_two id info count (inr (inr (inr h))) e = omega (arith, h.0, e)
 
-pub whole_not_end : (rest : List ℕ) → IsWhole rest → BeginsEnd rest → ⊥
+pub whole_not_end : (rest : List ℕ) → IsWholePackRecord rest → BeginsEnd rest → ⊥
 whole_not_end rest w b =
     let both : w.id ∷ w.info ∷ concat w.numbers ++ (w.repetition ++ w.after) ≡ 2 ∷ b.0 = sym w.text ∙ b.1 in
     let id : w.id ≡ 2 = cc in

@@ -13,7 +13,7 @@ use Rattle.shot_writer.specs.Writing.{IsWrittenButFor}
 use Rattle.shot_writer.proofs.ForCallers.{part_of, with_written-twice, file_more}
 use Rattle.shot_repeat.specs.Packing.{repetition_of, packed_record, records_of, packed_records, packed_text}
 use Rattle.shot_repeat.specs.Records.{body_text, repetition_text, record_text}
-use Rattle.shot_repeat.specs.Values.{count_of}
+use Rattle.shot_repeat.specs.Values.{shot_count}
 use Rattle.shot_repeat.specs.declared.record.PackRecord.{PackRecord}
 use Rattle.shot_repeat.specs.declared.record.Repetition.{Repetition}
 use Rattle.shot_repeat.proofs.Followers.{AreOf, are_of, stands}
@@ -87,21 +87,21 @@ less_one at count h = omega (arith, h)
 next_by : (l d : ℕ) (shots : List Trapezoid) (at : ℕ) (last : Option ShotFields) (f : ShotFields)
     (o : Option Repetition) (fs : List ShotFields) → map (fields_of l d) (drop at shots) ≡ fs
     → fs ≡ f ∷ map (fields_of l d) (drop (at + 1) shots) → o ≡ repetition_of fs → at < length shots
-    → Next l d shots at last f (packed_record last f o) (count_of o)
+    → Next l d shots at last f (packed_record last f o) (shot_count o)
 next_by l d shots at last f o fs own e g h =
     let rest = map (fields_of l d) (drop (at + 1) shots) in
     let same : o ≡ repetition_of (f ∷ rest) = g ∙ ap repetition_of e in
-    let skipped : drop (count_of o - 1) rest ≡ map (fields_of l d) (drop (at + count_of o) shots) =
-    drop-map (fields_of l d) (count_of o - 1) (drop (at + 1) shots) ∙ ap (map (fields_of l d))
-    (drop-drop (count_of o - 1) (at + 1) shots ∙ ap (λ (n : ℕ). drop n shots)
-    (less_one at (count_of o) (some_given o))) in
+    let skipped : drop (shot_count o - 1) rest ≡ map (fields_of l d) (drop (at + shot_count o) shots) =
+    drop-map (fields_of l d) (shot_count o - 1) (drop (at + 1) shots) ∙ ap (map (fields_of l d))
+    (drop-drop (shot_count o - 1) (at + 1) shots ∙ ap (λ (n : ℕ). drop n shots)
+    (less_one at (shot_count o) (some_given o))) in
     let whole : map (fields_of l d) (drop at shots) ≡ f ∷ rest = own ∙ e in
     let s = stands l d f rest (subst (λ (t : List ShotFields). AreOf l d t) whole (are_of l d (drop at shots))) in
     record {
       are = ap (records_of last 0) whole
-          ∙ (ap (λ (p : Option Repetition). packed_record last f p ∷ records_of (Some f) (count_of p - 1) rest) (sym same)
-          ∙ ap (λ (t : List PackRecord). packed_record last f o ∷ t) (records_skip (Some f) (count_of o - 1) rest ∙ ap (records_of (Some f) 0) skipped));
-      within = omega (arith, ap count_of same, s.within, sym (ap length whole), length_map (fields_of l d) (drop at shots), length-drop at shots, h);
+          ∙ (ap (λ (p : Option Repetition). packed_record last f p ∷ records_of (Some f) (shot_count p - 1) rest) (sym same)
+          ∙ ap (λ (t : List PackRecord). packed_record last f o ∷ t) (records_skip (Some f) (shot_count o - 1) rest ∙ ap (records_of (Some f) 0) skipped));
+      within = omega (arith, ap shot_count same, s.within, sym (ap length whole), length_map (fields_of l d) (drop at shots), length-drop at shots, h);
     }
 
 front_more : (front rest : List PackRecord) (r : PackRecord)
@@ -116,15 +116,15 @@ pub one_written : (tells : Type 0) (old now later : Content) (l d : ℕ) (shots 
     → map (fields_of l d) (drop at shots) ≡ f ∷ map (fields_of l d) (drop (at + 1) shots)
     → o ≡ repetition_of (map (fields_of l d) (drop at shots)) → r ≡ packed_record last f o
     → (tells → IsWrittenButFor now (had ++ record_text r) held later)
-    → WrittenSoFar tells old l d shots (at + count_of o) (Some f) (count + 1) held later
+    → WrittenSoFar tells old l d shots (at + shot_count o) (Some f) (count + 1) held later
 one_written tells old now later l d shots at last count had held f o r w h e g is put =
     let next = next_by l d shots at last f o (map (fields_of l d) (drop at shots)) refl e g h in
     record {
       front = w.front ++ r ∷ [];
       split = w.split ∙ (ap (λ (t : List PackRecord). w.front ++ t)
           (next.are ∙ ap (λ (s : PackRecord). s ∷ records_of (Some f) 0
-          (map (fields_of l d) (drop (at + count_of o) shots))) (sym is))
-          ∙ sym (append_assoc w.front (r ∷ []) (records_of (Some f) 0 (map (fields_of l d) (drop (at + count_of o) shots)))));
+          (map (fields_of l d) (drop (at + shot_count o) shots))) (sym is))
+          ∙ sym (append_assoc w.front (r ∷ []) (records_of (Some f) 0 (map (fields_of l d) (drop (at + shot_count o) shots)))));
       many = omega (arith, w.many, length-append w.front (r ∷ []));
       written = λ told.
           let p = w.written told in
@@ -143,7 +143,7 @@ one_written tells old now later l d shots at last count had held f o r w h e g i
 
 pub next_within : (l d : ℕ) (shots : List Trapezoid) (at : ℕ) (f : ShotFields) (o : Option Repetition)
     → at < length shots → map (fields_of l d) (drop at shots) ≡ f ∷ map (fields_of l d) (drop (at + 1) shots)
-    → o ≡ repetition_of (map (fields_of l d) (drop at shots)) → at + count_of o ≤ length shots
+    → o ≡ repetition_of (map (fields_of l d) (drop at shots)) → at + shot_count o ≤ length shots
 next_within l d shots at f o h e g = (next_by l d shots at None f o (map (fields_of l d) (drop at shots)) refl e g h).within
 
 -- a refusal of the next record leaves a prefix of all
@@ -155,7 +155,7 @@ pub refused_record : (tells : Type 0) (old now later : Content) (l d : ℕ) (sho
     → tells → IsPartWritten now (had ++ record_text r) later → IsPartWritten old (flat_map record_text (packed_records l d shots)) later
 refused_record tells old now later l d shots at last count had f o r w h e g is told part =
     let next = next_by l d shots at last f o (map (fields_of l d) (drop at shots)) refl e g h in
-    let rest = records_of (Some f) 0 (map (fields_of l d) (drop (at + count_of o) shots)) in
+    let rest = records_of (Some f) 0 (map (fields_of l d) (drop (at + shot_count o) shots)) in
     let split : packed_records l d shots ≡ w.front ++ r ∷ rest = w.split ∙ ap (λ (t : List PackRecord). w.front ++ t)
     (next.are ∙ ap (λ (s : PackRecord). s ∷ rest) (sym is)) in
     let p = w.written told in

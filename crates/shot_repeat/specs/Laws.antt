@@ -4,7 +4,7 @@ use Rattle.std.specs.Prelude.{ℕ, ◌≡◌, List, Option}
 use Rattle.half_grid.specs.Trapezoids.{Trapezoid}
 use Rattle.layout_model.specs.declared.pair.Pair.{Pair}
 use Rattle.shot_repeat.specs.Packed.{IsPackedText, IsPackedFile}
-use Rattle.shot_repeat.specs.Refusals.{IsFirstFault}
+use Rattle.shot_repeat.specs.Refusals.{IsFirstPackFault}
 use Rattle.shot_repeat.specs.declared.refusing.PackBad.{PackBad}
 
 -- Bytes stand for one unit, one pair and one list of shots at most.
@@ -16,11 +16,11 @@ OneReading =
 
 -- They have one first fault at most.
 abbrev pub OneFault : Type 0
-OneFault = (bytes : List ℕ) (bad other : PackBad) → IsFirstFault bytes bad → IsFirstFault bytes other → bad ≡ other
+OneFault = (bytes : List ℕ) (bad other : PackBad) → IsFirstPackFault bytes bad → IsFirstPackFault bytes other → bad ≡ other
 
 -- bytes in which no first fault is
 abbrev pub HasNoFault : List ℕ → Type 0
-HasNoFault bytes = (bad : PackBad) → IsFirstFault bytes bad → ⊥
+HasNoFault bytes = (bad : PackBad) → IsFirstPackFault bytes bad → ⊥
 
 -- bytes that are no packed shot file of few enough shots
 abbrev pub IsNoFile : List ℕ → Type 0

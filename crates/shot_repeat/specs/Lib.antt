@@ -1,12 +1,12 @@
 -- ---- what is promised, in reading order
+pub mod Packed
 pub mod Records
 pub mod Values
-pub mod Packed
-pub mod Refusals
-pub mod Laws
 pub mod Packing
-pub mod PackingLaws
+pub mod Refusals
 -- ---- what is kept inside
+pub mod Laws
+pub mod PackingLaws
 pub mod Modal
 pub mod Giving
 pub mod Progress

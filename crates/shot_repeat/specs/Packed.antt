@@ -5,9 +5,9 @@ use Rattle.std.specs.Prelude.{ℕ, ◌≡◌, ◌≤◌, List, [], ◌++◌, map
 use Rattle.half_grid.specs.Trapezoids.{Trapezoid, IsShot}
 use Rattle.layout_model.specs.declared.pair.Pair.{Pair}
 use Rattle.oas_lex.specs.ShotText.{IsUnit, head, end, fields_of}
-use Rattle.shot_reader.specs.Reading.{IsPairOf, Agrees}
+use Rattle.shot_reader.specs.Reading.{IsPairOf, AgreesWithPair}
 use Rattle.shot_repeat.specs.Records.{IsNarrow, record_text}
-use Rattle.shot_repeat.specs.Values.{count_of, all_given, AreDefined}
+use Rattle.shot_repeat.specs.Values.{shot_count, all_given, AreDefined}
 use Rattle.shot_repeat.specs.declared.record.PackRecord.{PackRecord}
 
 -- the bytes stand for this unit, this pair and these shots, each of which is legal and within reach
@@ -17,7 +17,7 @@ pub record IsPackedText (bytes : List ℕ) (unit : ℕ) (pair : Option Pair) (sh
   pub pair_fits : IsPairOf pair shots
   pub layer : ℕ
   pub datatype : ℕ
-  pub agrees : Agrees pair layer datatype
+  pub agrees : AgreesWithPair pair layer datatype
   pub records : List PackRecord
   pub narrow : All IsNarrow records
   pub defined : AreDefined [] records
@@ -33,7 +33,7 @@ most_of_file = 33554432
 
 -- each record gives few enough shots
 abbrev pub HasFew : PackRecord → Type 0
-HasFew r = count_of r.repetition ≤ most_of_record
+HasFew r = shot_count r.repetition ≤ most_of_record
 
 -- the bytes stand for these, and neither a record nor the file gives too many
 pub record IsPackedFile (bytes : List ℕ) (unit : ℕ) (pair : Option Pair) (shots : List Trapezoid) : Type 0 where

@@ -12,7 +12,7 @@ use Rattle.oas_lex.specs.ShotText.{head, end, fields_of}
 use Rattle.oas_lex.specs.declared.fields.ShotFields.{ShotFields}
 use Rattle.shot_repeat.specs.Packed.{most_of_record}
 use Rattle.shot_repeat.specs.Records.{record_text}
-use Rattle.shot_repeat.specs.Values.{count_of, moved_from}
+use Rattle.shot_repeat.specs.Values.{shot_count, moved_from}
 use Rattle.shot_repeat.specs.declared.record.PackRecord.{PackRecord}
 use Rattle.shot_repeat.specs.declared.record.Repetition.{Repetition}
 
@@ -97,7 +97,7 @@ abbrev pub records_of : Option ShotFields → ℕ → List ShotFields → List P
 records_of last skip [] = []
 records_of last (suc skip) (f ∷ rest) = records_of last skip rest
 records_of last zero (f ∷ rest) =
-    packed_record last f (repetition_of (f ∷ rest)) ∷ records_of (Some f) (count_of (repetition_of (f ∷ rest)) - 1) rest
+    packed_record last f (repetition_of (f ∷ rest)) ∷ records_of (Some f) (shot_count (repetition_of (f ∷ rest)) - 1) rest
 
 -- the records of a list of shots of one layer and one datatype
 abbrev pub packed_records : ℕ → ℕ → List Trapezoid → List PackRecord

@@ -4,7 +4,7 @@ use Rattle.half_grid.specs.Trapezoids.{Trapezoid, IsShot}
 use Rattle.layout_model.specs.declared.pair.Pair.{Pair}
 use Rattle.oas_lex.specs.ShotLaws.{IsNarrowPair}
 use Rattle.oas_lex.specs.ShotText.{IsUnit, fields_of, shot_text}
-use Rattle.shot_reader.specs.Reading.{IsPairOf, Agrees}
+use Rattle.shot_reader.specs.Reading.{IsPairOf, AgreesWithPair}
 use Rattle.shot_repeat.specs.Packed.{IsPackedText, IsPackedFile, most_of_file}
 use Rattle.shot_repeat.specs.Packing.{run_length, IsRun, packed_text}
 
@@ -12,14 +12,14 @@ use Rattle.shot_repeat.specs.Packing.{run_length, IsRun, packed_text}
 abbrev pub TextStands : Type 0
 TextStands =
     (unit layer datatype : ℕ) (pair : Option Pair) (shots : List Trapezoid)
-    → IsUnit unit → IsNarrowPair layer datatype → All IsShot shots → IsPairOf pair shots → Agrees pair layer datatype
+    → IsUnit unit → IsNarrowPair layer datatype → All IsShot shots → IsPairOf pair shots → AgreesWithPair pair layer datatype
     → IsPackedText (packed_text unit layer datatype shots) unit pair shots
 
 -- It is read where there are few enough shots.
 abbrev pub TextIsFile : Type 0
 TextIsFile =
     (unit layer datatype : ℕ) (pair : Option Pair) (shots : List Trapezoid)
-    → IsUnit unit → IsNarrowPair layer datatype → All IsShot shots → IsPairOf pair shots → Agrees pair layer datatype
+    → IsUnit unit → IsNarrowPair layer datatype → All IsShot shots → IsPairOf pair shots → AgreesWithPair pair layer datatype
     → length shots ≤ most_of_file → IsPackedFile (packed_text unit layer datatype shots) unit pair shots
 
 -- It has no more bytes than the plain text of these shots.

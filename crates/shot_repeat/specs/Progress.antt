@@ -8,7 +8,7 @@ use Rattle.shot_reader.specs.Reading.{IsPairOf}
 use Rattle.shot_repeat.specs.Modal.{updated, AreLast}
 use Rattle.shot_repeat.specs.Packed.{most_of_file}
 use Rattle.shot_repeat.specs.Records.{IsNarrow, record_text}
-use Rattle.shot_repeat.specs.Refusals.{IsWhole, IsSpelled, first_pair, count_given, HasFirstPair, IsFewAfter, AreRight}
+use Rattle.shot_repeat.specs.Refusals.{IsWholePackRecord, IsPackSpelled, first_pair, count_given, HasFirstPair, IsFewAfter, AreRight}
 use Rattle.shot_repeat.specs.Values.{IsDefined, fields_in, all_given}
 use Rattle.shot_repeat.specs.declared.reading.Next.{Next}
 use Rattle.shot_repeat.specs.declared.reading.Progress.{Progress}
@@ -18,8 +18,8 @@ use Rattle.shot_repeat.specs.declared.refusing.PackBad.TheVariants as faults
 
 -- the bytes don't begin with the spelling of a record, for this cause
 pub record IsUnspelled (rest : List ℕ) (at : ℕ) (bad : PackBad) : Type 0 where
-  pub cause : ((bad ≡ faults.Spelling at) × IsWhole rest) ⊎ ((bad ≡ faults.Record at) × (IsWhole rest → ⊥))
-  pub none : (r : PackRecord) → IsSpelled rest r → ⊥
+  pub cause : ((bad ≡ faults.Spelling at) × IsWholePackRecord rest) ⊎ ((bad ≡ faults.Record at) × (IsWholePackRecord rest → ⊥))
+  pub none : (r : PackRecord) → IsPackSpelled rest r → ⊥
 
 -- what is kept of the records before
 pub record AreKept (before : List PackRecord) (p : Progress) (so_far : ℕ) : Type 0 where

@@ -13,11 +13,11 @@ use Rattle.std.specs.List.{concat}
 use Rattle.half_grid.specs.Trapezoids.{Trapezoid, IsShot}
 use Rattle.layout_model.specs.declared.pair.Pair.{Pair}
 use Rattle.oas_lex.specs.ShotText.{IsUnit, head, end, fields_of}
-use Rattle.shot_reader.specs.Reading.{Agrees}
+use Rattle.shot_reader.specs.Reading.{AgreesWithPair}
 use Rattle.shot_reader.specs.Refusals.{IsHeadFault, IsNumber, BeginsEnd}
 use Rattle.shot_repeat.specs.Packed.{most_of_file, HasFew}
 use Rattle.shot_repeat.specs.Records.{IsNarrow, record_text}
-use Rattle.shot_repeat.specs.Values.{IsDefined, fields_in, count_of, given}
+use Rattle.shot_repeat.specs.Values.{IsDefined, fields_in, shot_count, given}
 use Rattle.shot_repeat.specs.declared.record.PackRecord.{PackRecord}
 use Rattle.shot_repeat.specs.declared.refusing.PackBad.{PackBad}
 use Rattle.shot_repeat.specs.declared.refusing.PackBad.TheVariants as faults
@@ -38,8 +38,8 @@ written_of info =
     + one_or_none (has info 16) + one_or_none (has info 8)
 
 -- the id is one of a shot's record, which has so many numbers with this info byte, those of its repetition aside
-abbrev pub HasNumbers : ℕ → ℕ → ℕ → Type 0
-HasNumbers id info count =
+abbrev pub HasWrittenCount : ℕ → ℕ → ℕ → Type 0
+HasWrittenCount id info count =
     ((id ≡ 20) × (count ≡ written_of info)) ⊎ ((id ≡ 23) × (count ≡ written_of info + 2))
     ⊎ ((id ≡ 24) × (count ≡ written_of info + 1)) ⊎ ((id ≡ 25) × (count ≡ written_of info + 1))
 
@@ -64,12 +64,12 @@ abbrev pub IsRepetitionOf : ℕ → List ℕ → Type 0
 IsRepetitionOf info bytes = IsRepetitionIf (has info 4) bytes
 
 -- the bytes begin with an id of a shot's record, an info byte below 80 hex, all its numbers and its repetition
-pub record IsWhole (rest : List ℕ) : Type 0 where
+pub record IsWholePackRecord (rest : List ℕ) : Type 0 where
   pub id : ℕ
   pub info : ℕ
   pub low : info < 128
   pub numbers : List (List ℕ)
-  pub count : HasNumbers id info (length numbers)
+  pub count : HasWrittenCount id info (length numbers)
   pub ends : All IsNumber numbers
   pub repetition : List ℕ
   pub repeats : IsRepetitionOf info repetition
@@ -77,7 +77,7 @@ pub record IsWhole (rest : List ℕ) : Type 0 where
   pub text : rest ≡ id ∷ info ∷ concat numbers ++ (repetition ++ after)
 
 -- the bytes begin with the one spelling of this record
-pub record IsSpelled (rest : List ℕ) (r : PackRecord) : Type 0 where
+pub record IsPackSpelled (rest : List ℕ) (r : PackRecord) : Type 0 where
   pub narrow : IsNarrow r
   pub after : List ℕ
   pub text : rest ≡ record_text r ++ after
@@ -91,16 +91,16 @@ first_pair (r ∷ rest) = Some (record { layer = (fields_in [] r).layer; datatyp
 
 -- the pair of a record after these is the first record's
 abbrev pub HasFirstPair : List PackRecord → PackRecord → Type 0
-HasFirstPair before r = Agrees (first_pair before) (fields_in before r).layer (fields_in before r).datatype
+HasFirstPair before r = AgreesWithPair (first_pair before) (fields_in before r).layer (fields_in before r).datatype
 
 -- how many shots the records give
 abbrev pub count_given : List PackRecord → ℕ
-count_given records = sum_by (λ (r : PackRecord). count_of r.repetition) records
+count_given records = sum_by (λ (r : PackRecord). shot_count r.repetition) records
 
 -- a record after these gives few enough shots, and the file up to it has few enough
 pub record IsFewAfter (before : List PackRecord) (r : PackRecord) : Type 0 where
   pub own : HasFew r
-  pub all : count_given before + count_of r.repetition ≤ most_of_file
+  pub all : count_given before + shot_count r.repetition ≤ most_of_file
 
 -- each shot that a record after these gives is one
 pub record IsLegalAfter (before : List PackRecord) (r : PackRecord) : Type 0 where
@@ -109,20 +109,20 @@ pub record IsLegalAfter (before : List PackRecord) (r : PackRecord) : Type 0 whe
   pub are : map (fields_of (fields_in before r).layer (fields_in before r).datatype) shots ≡ given before r
 
 -- what is wrong with a record after these, though it is spelled as it should be
-abbrev pub IsValueFault : List PackRecord → PackRecord → ℕ → PackBad → Type 0
-IsValueFault before r at bad =
+abbrev pub IsPackValueFault : List PackRecord → PackRecord → ℕ → PackBad → Type 0
+IsPackValueFault before r at bad =
     ((bad ≡ faults.Undefined at) × (IsDefined before r → ⊥))
     ⊎ (IsDefined before r × (((bad ≡ faults.Pair at) × (HasFirstPair before r → ⊥))
     ⊎ (HasFirstPair before r × (((bad ≡ faults.Many at) × (IsFewAfter before r → ⊥))
     ⊎ (IsFewAfter before r × (bad ≡ faults.Illegal at) × (IsLegalAfter before r → ⊥))))))
 
 -- what is wrong with the record that begins here, after these records
-abbrev pub IsRecordFault : List PackRecord → List ℕ → ℕ → PackBad → Type 0
-IsRecordFault before rest at bad =
+abbrev pub IsPackRecordFault : List PackRecord → List ℕ → ℕ → PackBad → Type 0
+IsPackRecordFault before rest at bad =
     ((bad ≡ faults.End at) × BeginsEnd rest × (rest ≢ end))
-    ⊎ ((bad ≡ faults.Record at) × (BeginsEnd rest → ⊥) × (IsWhole rest → ⊥))
-    ⊎ ((bad ≡ faults.Spelling at) × IsWhole rest × ((r : PackRecord) → IsSpelled rest r → ⊥))
-    ⊎ ((r : PackRecord) × IsSpelled rest r × IsValueFault before r at bad)
+    ⊎ ((bad ≡ faults.Record at) × (BeginsEnd rest → ⊥) × (IsWholePackRecord rest → ⊥))
+    ⊎ ((bad ≡ faults.Spelling at) × IsWholePackRecord rest × ((r : PackRecord) → IsPackSpelled rest r → ⊥))
+    ⊎ ((r : PackRecord) × IsPackSpelled rest r × IsPackValueFault before r at bad)
 
 -- ---- the file
 
@@ -140,7 +140,7 @@ AreRight before [] = Unit {0}
 AreRight before (r ∷ rest) = IsRight before r × AreRight (before ++ r ∷ []) rest
 
 -- before this offset stand a head and these records, with which nothing is wrong
-pub record IsReadUpTo (bytes : List ℕ) (at : ℕ) (records : List PackRecord) : Type 0 where
+pub record ArePackRecordsReadUpTo (bytes : List ℕ) (at : ℕ) (records : List PackRecord) : Type 0 where
   pub within : at ≤ length bytes
   pub unit : ℕ
   pub unit_fits : IsUnit unit
@@ -148,7 +148,7 @@ pub record IsReadUpTo (bytes : List ℕ) (at : ℕ) (records : List PackRecord) 
   pub text : take at bytes ≡ head unit ++ flat_map record_text records
 
 -- this is the first fault of the bytes
-abbrev pub IsFirstFault : List ℕ → PackBad → Type 0
-IsFirstFault bytes bad =
+abbrev pub IsFirstPackFault : List ℕ → PackBad → Type 0
+IsFirstPackFault bytes bad =
     ((n : ℕ) × (bad ≡ faults.Head n) × IsHeadFault bytes n)
-    ⊎ ((at : ℕ) × (records : List PackRecord) × IsReadUpTo bytes at records × IsRecordFault records (drop at bytes) at bad)
+    ⊎ ((at : ℕ) × (records : List PackRecord) × ArePackRecordsReadUpTo bytes at records × IsPackRecordFault records (drop at bytes) at bad)

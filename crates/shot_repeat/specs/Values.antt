@@ -45,9 +45,9 @@ fields_in before r = record {
 }
 
 -- how many shots
-abbrev pub count_of : Option Repetition → ℕ
-count_of None = 1
-count_of (Some p) = p.more + 2
+abbrev pub shot_count : Option Repetition → ℕ
+shot_count None = 1
+shot_count (Some p) = p.more + 2
 
 -- how far each shot lies from the one before it
 abbrev pub step_of : Option Repetition → Point
@@ -65,7 +65,7 @@ moved_from f step k (suc count) = moved f step k ∷ moved_from f step (suc k) c
 
 -- the fields of the shots that a record gives
 abbrev pub given : List PackRecord → PackRecord → List ShotFields
-given before r = moved_from (fields_in before r) (step_of r.repetition) 0 (count_of r.repetition)
+given before r = moved_from (fields_in before r) (step_of r.repetition) 0 (shot_count r.repetition)
 
 -- the fields of the shots that records give, after those before
 abbrev pub all_given : List PackRecord → List PackRecord → List ShotFields

@@ -4,7 +4,7 @@ ghost use Rattle.oas_lex.specs.ShotText.{IsUnit};
 ghost use Rattle.shot_repeat.specs.Asking.{AskForFew};
 ghost use Rattle.shot_repeat.specs.Packed.{most_of_file};
 ghost use Rattle.shot_repeat.specs.Progress.{IsStart, HasSeen};
-ghost use Rattle.shot_repeat.specs.Refusals.{IsFirstFault};
+ghost use Rattle.shot_repeat.specs.Refusals.{IsFirstPackFault};
 
 use crate::fields::record_at;
 use crate::giving::look_at_shots;
@@ -48,7 +48,7 @@ fn look_at_one(
     requires few { so_far ≤ most_of_file }
     ensures next { IfOk result (λ r. progress.now.at < r.0.at) }
     ensures ok { (unit : ℕ) → HasSeen bytes.now unit progress.now so_far → IfOk result (λ r. HasSeen bytes.now unit r.0 r.1) }
-    ensures refused { (unit : ℕ) → IsUnit unit → HasSeen bytes.now unit progress.now so_far → IfErr result (IsFirstFault bytes.now) }
+    ensures refused { (unit : ℕ) → IsUnit unit → HasSeen bytes.now unit progress.now so_far → IfErr result (IsFirstPackFault bytes.now) }
 {
     let next = next_record(bytes, progress, so_far)?;
     let step = step_of(&next.record.repetition);
@@ -61,7 +61,7 @@ fn look_at_one(
 fn look_over(bytes: &[u8], start: &Progress) -> Result<(), PackBad>
     requires { (unit : ℕ) × IsStart bytes.now unit start.now }
     ensures ok { OnOk result (AskForFew (drop start.now.at bytes.now)) }
-    ensures refused { IfErr result (IsFirstFault bytes.now) }
+    ensures refused { IfErr result (IsFirstPackFault bytes.now) }
 {
     let mut progress = *start;
     let mut count = 0;
@@ -78,7 +78,7 @@ fn look_over(bytes: &[u8], start: &Progress) -> Result<(), PackBad>
 pub(crate) fn check_number(bytes: &[u8], start: &Progress) -> Result<(), PackBad>
     requires { (unit : ℕ) × IsStart bytes.now unit start.now }
     ensures ok { OnOk result (AskForFew (drop start.now.at bytes.now)) }
-    ensures refused { IfErr result (IsFirstFault bytes.now) }
+    ensures refused { IfErr result (IsFirstPackFault bytes.now) }
 {
     if ask_for_few(bytes, start.at) {
         return Ok(());

@@ -1,8 +1,8 @@
 //! The values of the fields that a record doesn't write.
 ghost use Rattle.std.specs.Prelude.{◌≡◌, ◌≤◌, ◌+◌, ◌<◌, ◌^◌, ◌⊎◌, ◌↔◌, ℕ, pos, List, Option, IfSome, IsSome, IsTrue, IfOk, IfErr, unwrap_or};
 ghost use Rattle.oas_lex.specs.declared.fields.ShotFields.{ShotFields as Fields};
-ghost use Rattle.shot_reader.specs.Reading.{Agrees};
-ghost use Rattle.shot_repeat.specs.Values.{newer, count_of, step_of};
+ghost use Rattle.shot_reader.specs.Reading.{AgreesWithPair};
+ghost use Rattle.shot_repeat.specs.Values.{newer, shot_count, step_of};
 ghost use Rattle.shot_repeat.specs.Modal.{updated, IsShown};
 
 use crate::record::{PackRecord, Repetition};
@@ -106,7 +106,7 @@ pub(crate) fn fields_shown(modal: &Modal, written: &PackRecord) -> Option<ShotFi
 
 /// Whether a record with the pair may come after those with the first.
 pub(crate) fn agrees(first: Option<Pair>, layer: u64, datatype: u64) -> bool
-    ensures { IsTrue result ↔ Agrees first layer datatype }
+    ensures { IsTrue result ↔ AgreesWithPair first layer datatype }
 {
     match first {
         None => true,
@@ -115,9 +115,9 @@ pub(crate) fn agrees(first: Option<Pair>, layer: u64, datatype: u64) -> bool
 }
 
 /// How many shots the record gives.
-pub(crate) fn count_of(repetition: &Option<Repetition>) -> u64
-    requires { count_of repetition.now < 2 ^ 64 }
-    ensures { result ≡ count_of repetition.now }
+pub(crate) fn shot_count(repetition: &Option<Repetition>) -> u64
+    requires { shot_count repetition.now < 2 ^ 64 }
+    ensures { result ≡ shot_count repetition.now }
 {
     match repetition {
         None => 1,

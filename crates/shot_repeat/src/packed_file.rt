@@ -7,7 +7,7 @@ ghost use Rattle.layout_model.specs.declared.pair.Pair.{Pair as APair};
 ghost use Rattle.shot_repeat.specs.Asking.{AskForFew};
 ghost use Rattle.shot_repeat.specs.Packed.{IsPackedFile, most_of_file};
 ghost use Rattle.shot_repeat.specs.Progress.{IsStart, HasRead};
-ghost use Rattle.shot_repeat.specs.Refusals.{IsRecordFault, IsFirstFault};
+ghost use Rattle.shot_repeat.specs.Refusals.{IsPackRecordFault, IsFirstPackFault};
 ghost use Rattle.shot_repeat.specs.declared.record.PackRecord.{PackRecord as Written};
 ghost use Rattle.shot_repeat.specs.declared.refusing.PackBad.{PackBad as Bad};
 
@@ -34,7 +34,7 @@ fn read_one(
     ensures ok { (unit : ℕ) (records : Items Written) → HasRead bytes.now unit records progress.now shots.old
         → IfOk result (λ p. (r : Written) × HasRead bytes.now unit (records ++ r ∷ []) p shots.new) }
     ensures refused { (unit : ℕ) (records : Items Written) → HasRead bytes.now unit records progress.now shots.old
-        → IfFault result (IsRecordFault records (drop progress.now.at bytes.now) progress.now.at) }
+        → IfFault result (IsPackRecordFault records (drop progress.now.at bytes.now) progress.now.at) }
 {
     let next = match next_record(bytes, progress, shots.as_slice().len()) {
         Ok(next) => next,
@@ -57,7 +57,7 @@ fn take_file(
     requires few { AskForFew (drop start.now.at bytes.now) }
     ensures unit { IfOk result (λ file. file.unit ≡ unit) }
     ensures found { IfOk result (λ file. IsPackedFile bytes.now file.unit file.pair file.shots) }
-    ensures refused { IfFault result (IsFirstFault bytes.now) }
+    ensures refused { IfFault result (IsFirstPackFault bytes.now) }
 {
     let mut progress = *start;
     let mut shots = List::new(alloc);
@@ -83,8 +83,8 @@ pub fn read_packed(alloc: Global, bytes: &[u8]) -> Result<ShotFile, Refusal<Pack
         → IfOk result (λ file. (file.unit ≡ unit) × (file.pair ≡ pair) × (file.shots ≡ shots)) }
     ensures refused { (unit : ℕ) (pair : Option APair) (shots : Items Trapezoid) → IsPackedFile bytes.now unit pair shots
         → IfErr result (λ refusal. refusal ≡ NoMemory) }
-    ensures first_fault { IfFault result (IsFirstFault bytes.now) }
-    ensures every_fault { (bad : Bad) → IsFirstFault bytes.now bad → (result ≡ Err (Fault bad)) ⊎ (result ≡ Err NoMemory) }
+    ensures first_fault { IfFault result (IsFirstPackFault bytes.now) }
+    ensures every_fault { (bad : Bad) → IsFirstPackFault bytes.now bad → (result ≡ Err (Fault bad)) ⊎ (result ≡ Err NoMemory) }
 {
     let Some((unit, first)) = head_of(bytes) else {
         return Err(Refusal::Fault(PackBad::Head(longest_head(bytes))));

@@ -6,7 +6,7 @@ ghost use Rattle.oas_lex.specs.ShotText.{IsUnit, fields_of};
 ghost use Rattle.shot_reader.specs.Near.{AreNear};
 ghost use Rattle.shot_repeat.specs.Packing.{changed, changed_place, packed_record, packed_records, packed_text};
 ghost use Rattle.shot_repeat.specs.Records.{IsNarrow, IsNarrowRepetition, record_text};
-ghost use Rattle.shot_writer.specs.Holding.{Holds};
+ghost use Rattle.shot_writer.specs.Holding.{HoldsWritten};
 
 use crate::modal::count_of;
 use crate::record::{PackRecord, Repetition, spell_body, spell_repetition};
@@ -92,7 +92,7 @@ fn put_record<D: Depot>(
 ) -> Result<(), DepotBad>
     requires current { IsTrue D.tells → IsSome (D.content depot.old).current }
     requires narrow { IsNarrow written.now }
-    ensures content { Holds D.tells (D.content depot.old) (D.content depot.new)
+    ensures content { HoldsWritten D.tells (D.content depot.old) (D.content depot.new)
         (buffer.old ++ record_text written.now) (buffer.old ++ record_text written.now) buffer.new result }
     ensures counts { CountsWrites (D.counts depot.old) (D.counts depot.new) result }
 {

@@ -5,7 +5,7 @@ ghost use Rattle.shot_repeat.specs.Modal.{updated};
 ghost use Rattle.shot_repeat.specs.Packed.{most_of_file};
 ghost use Rattle.shot_repeat.specs.Progress.{IsUnspelled, AreKept, IsJudged, IsNext, first_of};
 ghost use Rattle.shot_repeat.specs.Records.{IsNarrow, record_text};
-ghost use Rattle.shot_repeat.specs.Refusals.{IsValueFault, IsRecordFault};
+ghost use Rattle.shot_repeat.specs.Refusals.{IsPackValueFault, IsPackRecordFault};
 ghost use Rattle.shot_repeat.specs.declared.record.PackRecord.{PackRecord as Written};
 
 use crate::fields::record_at;
@@ -67,7 +67,7 @@ fn judged(
     ensures ok { (before : Items Written) → AreKept before progress.now so_far
         → IfOk result (λ f. IsJudged before written.now f) }
     ensures refused { (before : Items Written) → AreKept before progress.now so_far
-        → IfErr result (λ bad. IsValueFault before written.now progress.now.at bad) }
+        → IfErr result (λ bad. IsPackValueFault before written.now progress.now.at bad) }
 {
     let Some(fields) = fields_shown(modal, written) else {
         return Err(PackBad::Undefined(progress.at));
@@ -113,7 +113,7 @@ pub(crate) fn next_record(bytes: &[u8], progress: &Progress, so_far: usize) -> R
     requires few { so_far ≤ most_of_file }
     ensures ok { IfOk result (IsNext bytes.now progress.now so_far) }
     ensures refused { (records : Items Written) → AreKept records progress.now so_far
-        → IfErr result (λ bad. IsRecordFault records (drop progress.now.at bytes.now) progress.now.at bad) }
+        → IfErr result (λ bad. IsPackRecordFault records (drop progress.now.at bytes.now) progress.now.at bad) }
 {
     let spelled = spelled_at(bytes, progress.at)?;
     let record = spelled.record;
@@ -135,7 +135,7 @@ pub(crate) fn ends_right(bytes: &[u8], at: usize) -> Result<(), PackBad>
     requires within { at ≤ length bytes.now }
     requires stops { at < length bytes.now → slice_index bytes.now at ≡ 2 }
     ensures ok { OnOk result (drop at bytes.now ≡ end) }
-    ensures refused { (records : Items Written) → IfErr result (λ bad. IsRecordFault records (drop at bytes.now) at bad) }
+    ensures refused { (records : Items Written) → IfErr result (λ bad. IsPackRecordFault records (drop at bytes.now) at bad) }
 {
     if at == bytes.len() {
         return Err(PackBad::Record(at));

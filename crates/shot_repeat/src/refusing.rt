@@ -2,7 +2,7 @@
 ghost use Rattle.std.specs.Prelude.{◌≡◌, ◌⊎◌, ◌≤◌, ◌++◌, ℕ, List, length, drop, IsTrue, IsSome, IfSome};
 ghost use Rattle.shot_reader.specs.Refusals.{IsNumber};
 ghost use Rattle.shot_repeat.specs.Numbers.{NumberAt, NumbersAt, Left};
-ghost use Rattle.shot_repeat.specs.Refusals.{IsWhole, HasNumbers, IsRepetition};
+ghost use Rattle.shot_repeat.specs.Refusals.{IsWholePackRecord, HasWrittenCount, IsRepetition};
 
 use crate::fields::{has, one_or_none};
 use oas_lex::{RECTANGLE, TRAPEZOID, TRAPEZOID_A, TRAPEZOID_B};
@@ -68,8 +68,8 @@ fn after_numbers(bytes: &[u8], at: usize, count: usize) -> Option<usize>
 
 // How many numbers the record of this id has with this info byte, those of its repetition aside.
 fn numbers_of(id: u8, info: u8) -> Option<usize>
-    ensures some { IfSome result (λ count. HasNumbers id info count) }
-    ensures all { (count : ℕ) → HasNumbers id info count → result ≡ Some count }
+    ensures some { IfSome result (λ count. HasWrittenCount id info count) }
+    ensures all { (count : ℕ) → HasWrittenCount id info count → result ≡ Some count }
 {
     let written = one_or_none(has(info, 1))
         + one_or_none(has(info, 2))
@@ -112,8 +112,8 @@ fn repeats_at(bytes: &[u8], at: usize) -> bool
 // Whether a record of a shot stands whole at `at`, however its numbers are spelled.
 fn is_whole(bytes: &[u8], at: usize) -> bool
     requires { at ≤ length bytes.now }
-    ensures yes { IsTrue result → IsWhole (drop at bytes.now) }
-    ensures all { IsWhole (drop at bytes.now) → IsTrue result }
+    ensures yes { IsTrue result → IsWholePackRecord (drop at bytes.now) }
+    ensures all { IsWholePackRecord (drop at bytes.now) → IsTrue result }
 {
     if bytes.len() < at + 2 {
         return false;
@@ -137,7 +137,7 @@ fn is_whole(bytes: &[u8], at: usize) -> bool
 /// The refusal of a record that isn't spelled as one is: Record where it isn't whole, and else Spelling.
 pub(crate) fn record_refusal(bytes: &[u8], at: usize) -> PackBad
     requires { at ≤ length bytes.now }
-    ensures { ((result ≡ PackBad.Spelling at) × IsWhole (drop at bytes.now)) ⊎ ((result ≡ PackBad.Record at) × (IsWhole (drop at bytes.now) → ⊥)) }
+    ensures { ((result ≡ PackBad.Spelling at) × IsWholePackRecord (drop at bytes.now)) ⊎ ((result ≡ PackBad.Record at) × (IsWholePackRecord (drop at bytes.now) → ⊥)) }
 {
     if is_whole(bytes, at) {
         PackBad::Spelling(at)

@@ -5,6 +5,6 @@ use Rattle.depot.specs.declared.outside.DepotBad.{DepotBad}
 use Rattle.shot_writer.specs.Writing.{IsWrittenButFor}
 
 -- the bytes are written but for those that are held, or a prefix of what was held before where it is refused
-pub record Holds {T : Type 0} (tells : Bool) (before now : Content) (had bytes held : List ℕ) (result : Result T DepotBad) : Type 0 where
+pub record HoldsWritten {T : Type 0} (tells : Bool) (before now : Content) (had bytes held : List ℕ) (result : Result T DepotBad) : Type 0 where
   pub ok : OnOk result (IsTrue tells → IsWrittenButFor before bytes held now)
   pub refused : OnErr result (IsTrue tells → IsPartWritten before had now)

@@ -2,7 +2,7 @@
 ghost use Rattle.std.specs.Prelude.{◌≡◌, ◌+◌, ◌≤◌, IsTrue, IsSome, OnOk, [], ◌++◌, length};
 ghost use Rattle.depot.specs.Counting.{CountsWrites};
 ghost use Rattle.depot.specs.Doing.{Writes};
-ghost use Rattle.shot_writer.specs.Holding.{Holds};
+ghost use Rattle.shot_writer.specs.Holding.{HoldsWritten};
 
 use depot::{BUFFER_SIZE, Buffer, Depot, DepotBad, write_whole};
 use oas_lex::ROOM;
@@ -23,7 +23,7 @@ pub fn flush<D: Depot>(depot: &mut D, buffer: &mut Buffer) -> Result<(), DepotBa
 fn make_room<D: Depot>(depot: &mut D, buffer: &mut Buffer) -> Result<(), DepotBad>
     requires { IsTrue D.tells → IsSome (D.content depot.old).current }
     ensures room { OnOk result (length buffer.new + ROOM ≤ BUFFER_SIZE) }
-    ensures content { Holds D.tells (D.content depot.old) (D.content depot.new) buffer.old buffer.old buffer.new result }
+    ensures content { HoldsWritten D.tells (D.content depot.old) (D.content depot.new) buffer.old buffer.old buffer.new result }
     ensures counts { CountsWrites (D.counts depot.old) (D.counts depot.new) result }
 {
     if ROOM <= buffer.room() {
@@ -36,7 +36,7 @@ fn make_room<D: Depot>(depot: &mut D, buffer: &mut Buffer) -> Result<(), DepotBa
 pub fn put_bytes<D: Depot>(depot: &mut D, buffer: &mut Buffer, bytes: &[u8]) -> Result<(), DepotBad>
     requires current { IsTrue D.tells → IsSome (D.content depot.old).current }
     requires short { length bytes.now ≤ ROOM }
-    ensures content { Holds D.tells (D.content depot.old) (D.content depot.new)
+    ensures content { HoldsWritten D.tells (D.content depot.old) (D.content depot.new)
         buffer.old (buffer.old ++ bytes.now) buffer.new result }
     ensures counts { CountsWrites (D.counts depot.old) (D.counts depot.new) result }
 {

@@ -1,7 +1,7 @@
 -- ---- what is promised, in reading order
-pub mod Mirrors
-pub mod MirrorLaws
 pub mod Frames
+pub mod Mirrors
 -- ---- what is kept inside
+pub mod MirrorLaws
 pub mod Images
 pub mod Laws

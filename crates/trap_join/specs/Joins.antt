@@ -72,8 +72,8 @@ module _ {F : Type 0} where
   left_in scan front = still_left scan.window.y1 scan.y (length front.growing.items) (length front.waiting.items)
 
   -- the area whose joined list a join gives
-  abbrev pub area_of : (ℤ → ℤ → Bool → Type 0) → JoinState F → Tile → Type 0
-  area_of post state = IsTakenIn post state.edges state.window
+  abbrev pub join_area : (ℤ → ℤ → Bool → Type 0) → JoinState F → Tile → Type 0
+  join_area post state = IsTakenIn post state.edges state.window
 
   -- a number that falls with each trapezoid that a join gives, so a loop over a join has it as its measure
   abbrev pub left_to_give : JoinState F → ℕ

@@ -1,4 +1,4 @@
--- ---- what is promised, in reading order
+-- ---- what is kept inside
 pub mod Maximal
 pub mod Fronts
 pub mod Joins

@@ -4,7 +4,7 @@ ghost use Rattle.half_grid.specs.Trapezoids.{Trapezoid, CoversExactly};
 ghost use Rattle.half_grid.specs.JoinedLists.{IsJoined, StandsBefore};
 ghost use Rattle.scan_line.specs.Rules.{IsRule};
 ghost use Rattle.trap_join.specs.Maximal.{IsMaximal, AreMaximal};
-ghost use Rattle.trap_join.specs.Joins.{IsTakenIn, IsJoinedSoFar, IsFrontOf, HasGiven, TopIsKnown, left_in, left_to_give, area_of};
+ghost use Rattle.trap_join.specs.Joins.{IsTakenIn, IsJoinedSoFar, IsFrontOf, HasGiven, TopIsKnown, left_in, left_to_give, join_area};
 
 use crate::front::Front;
 use geo_stream::NoMemory;
@@ -158,12 +158,12 @@ impl<F: Fn(i128, i128) -> bool> Join<F> {
         requires rule { IsRule (F.pre self.old.rule) (F.post self.old.rule) }
         requires going { self.old.failed ≡ false → (given : List Trapezoid) × HasGiven (F.post self.old.rule) self.old given }
         ensures gives { (given : List Trapezoid) → HasGiven (F.post self.old.rule) self.old given → IfOk result (λ answer. IfSome answer (λ trap. HasGiven (F.post self.old.rule) self.new (given ++ trap ∷ []))) }
-        ensures maximal { IfOk result (λ answer. IfSome answer (IsMaximal (area_of (F.post self.old.rule) self.old) self.old.window)) }
+        ensures maximal { IfOk result (λ answer. IfSome answer (IsMaximal (join_area (F.post self.old.rule) self.old) self.old.window)) }
         ensures in_order { (given : List Trapezoid) → HasGiven (F.post self.old.rule) self.old given → IfOk result (λ answer. IfSome answer (λ trap. All (λ z. StandsBefore z trap) given)) }
         ensures ends { (given : List Trapezoid) → HasGiven (F.post self.old.rule) self.old given → IfOk result (λ answer. IfNone answer (HasGiven (F.post self.old.rule) self.new given)) }
         ensures joined { (given : List Trapezoid) → HasGiven (F.post self.old.rule) self.old given → IfOk result (λ answer. IfNone answer (IsJoined self.old.window given)) }
-        ensures whole { (given : List Trapezoid) → HasGiven (F.post self.old.rule) self.old given → IfOk result (λ answer. IfNone answer (AreMaximal (area_of (F.post self.old.rule) self.old) self.old.window given)) }
-        ensures covers { (given : List Trapezoid) → HasGiven (F.post self.old.rule) self.old given → IfOk result (λ answer. IfNone answer (CoversExactly given (area_of (F.post self.old.rule) self.old))) }
+        ensures whole { (given : List Trapezoid) → HasGiven (F.post self.old.rule) self.old given → IfOk result (λ answer. IfNone answer (AreMaximal (join_area (F.post self.old.rule) self.old) self.old.window given)) }
+        ensures covers { (given : List Trapezoid) → HasGiven (F.post self.old.rule) self.old given → IfOk result (λ answer. IfNone answer (CoversExactly given (join_area (F.post self.old.rule) self.old))) }
         ensures fewer { IfOk result (λ answer. left_to_give self.new + length (option_to_list answer) ≤ left_to_give self.old) }
         ensures going { OnOk result (self.new.failed ≡ false) }
         ensures fails { OnErr result (self.new.failed ≡ true) }

@@ -3,7 +3,7 @@ use Rattle.std.proofs.lemmas.Option.{same_Some}
 use Rattle.geo_stream.specs.Refusals.{IfFault}
 use Rattle.cell_tree.specs.Cells.{cell_number}
 use Rattle.cell_tree.specs.Trees.{IsTree}
-use Rattle.cell_tree.specs.Faults.{IsFirstFault}
+use Rattle.cell_tree.specs.Faults.{IsFirstTreeFault}
 use Rattle.cell_tree.proofs.NameLemmas.{number_within}
 use Rattle.cell_tree.proofs.TreeLemmas.{accepted, answered}
 use Rattle.cell_tree.proofs.trees.resolve.Goals as goal
@@ -28,7 +28,7 @@ returns-clause-accepted c = λ n is tree.
     let top = c.in_ok-found.found.top in
     let same : n ≡ top = same_Some n c.in-Some.top (sym is ∙ here) ∙ sym c.in_ok-found.ensures.top in
     accepted c.args.layout.cells top c.tree_of.result c.requires.cells
-    (subst (λ l. IfFault c.tree_of.result (IsFirstFault l.cells top)) (c.find_copies.ensures ∙ c.in_ok-linked.ensures) c.tree_of.ensures.err)
+    (subst (λ l. IfFault c.tree_of.result (IsFirstTreeFault l.cells top)) (c.find_copies.ensures ∙ c.in_ok-linked.ensures) c.tree_of.ensures.err)
     (subst (IsTree c.args.layout.cells) same tree))
 
 pub returns-clause-found : goal.returns-clause-found
@@ -39,5 +39,5 @@ returns-clause-found c = λ n bad is fault.
     let same : n ≡ top = same_Some n c.in-Some.top (sym is ∙ here) ∙ sym c.in_ok-found.ensures.top in
     answered c.args.layout.cells top c.tree_of.result bad c.requires.cells
     (subst (λ l. OnOk c.tree_of.result (IsTree l.cells top)) (c.find_copies.ensures ∙ c.in_ok-linked.ensures) c.tree_of.ensures.tree)
-    (subst (λ l. IfFault c.tree_of.result (IsFirstFault l.cells top)) (c.find_copies.ensures ∙ c.in_ok-linked.ensures) c.tree_of.ensures.err)
-    (subst (λ t. IsFirstFault c.args.layout.cells t bad) same fault))
+    (subst (λ l. IfFault c.tree_of.result (IsFirstTreeFault l.cells top)) (c.find_copies.ensures ∙ c.in_ok-linked.ensures) c.tree_of.ensures.err)
+    (subst (λ t. IsFirstTreeFault c.args.layout.cells t bad) same fault))

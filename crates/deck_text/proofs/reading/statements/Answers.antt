@@ -7,7 +7,7 @@ use Rattle.deck_text.specs.Forms.{reading}
 use Rattle.deck_text.specs.Views.{statement_view}
 use Rattle.deck_text.specs.SaidViews.{said_view, said_views}
 use Rattle.deck_text.specs.Rules.{broken_rule}
-use Rattle.deck_text.specs.Decks.{said, has_output, IsFirstFault}
+use Rattle.deck_text.specs.Decks.{said, has_output, IsFirstDeckFault}
 use Rattle.deck_text.proofs.Steps.{IsReadAll, starts, lines_left, refused_next, passes_next, says_next, ends, no_output}
 use Rattle.deck_text.proofs.Ends.{none_left, pushed}
 use Rattle.deck_text.proofs.reading.statements.Goals as goal
@@ -59,7 +59,7 @@ returns-in_err-said-in-Ok-Some-clause-refused c =
     (for_fault_weaker
     (λ bad. broken_rule c.args.names.layout.now c.args.names.deck.now (said_views c.loop-at.saids.items) (c.loop-at.lines + 1)
     (statement_view c.in-Ok-Some.says) ≡ Some bad)
-    (IsFirstFault c.args.bytes.now c.args.names.layout.now c.args.names.deck.now) _
+    (IsFirstDeckFault c.args.bytes.now c.args.names.layout.now c.args.names.deck.now) _
     (λ bad broken. inl (
       c.loop-at.lines,
       refused_next c.args.names.layout.now c.args.names.deck.now (lines_of c.args.bytes.now) c.loop-at.lines

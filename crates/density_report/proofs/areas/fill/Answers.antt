@@ -7,7 +7,7 @@ use Rattle.std.specs.List.{All}
 use Rattle.half_grid.specs.JoinedLists.{IsInWindow}
 use Rattle.half_grid.specs.Trapezoids.{Trapezoid}
 use Rattle.density_map.specs.Rows.{AreApart}
-use Rattle.density_report.specs.Saying.{area_of}
+use Rattle.deck_plan.specs.Plans.{planned_area}
 use Rattle.density_report.specs.Rows.{rows_of, AreMapsOf, IsFilled, IsPassed}
 use Rattle.density_report.proofs.AreaLemmas.{all_passed, filled, passed_as, passed_both, passed_only}
 use Rattle.density_report.proofs.MapLemmas.{counts_from}
@@ -25,7 +25,7 @@ skip-requires-clause-left c =
     let new = c.above.ensures in
     let few : length c.in_ok-traps.traps.items ≡ 0 = grind (arith, nat_tests) in
     let none = nil_from_length c.in_ok-traps.traps.items few in
-    let p = passed_as (area_of c.args.plan.now c.args.output) c.args.left.now c.above.result c.lower-batch.result.end new.mesh new.row new.end
+    let p = passed_as (planned_area c.args.plan.now c.args.output) c.args.left.now c.above.result c.lower-batch.result.end new.mesh new.row new.end
     (all_passed c.args.plan.now c.args.output c.args.left.now c.lower-batch.result c.in_ok-traps.traps.items
     c.requires.left c.lower-batch.ensures c.in_ok-traps.ensures none) in
     p.batch
@@ -38,15 +38,15 @@ returns-then-is_empty c =
     let at = new.row in
     let few : length c.in_ok-traps.traps.items ≡ 0 = grind (arith, nat_tests) in
     let none = nil_from_length c.in_ok-traps.traps.items few in
-    let p = passed_as (area_of c.args.plan.now c.args.output) c.args.left.now c.above.result c.lower-batch.result.end new.mesh new.row new.end
+    let p = passed_as (planned_area c.args.plan.now c.args.output) c.args.left.now c.above.result c.lower-batch.result.end new.mesh new.row new.end
     (all_passed c.args.plan.now c.args.output c.args.left.now c.lower-batch.result c.in_ok-traps.traps.items
     c.requires.left c.lower-batch.ensures c.in_ok-traps.ensures none) in
-    IfOk-weaker c.skip.result (λ new. IsPassed (area_of c.args.plan.now c.args.output) c.above.result new)
-    (λ new. IsFilled (area_of c.args.plan.now c.args.output) c.args.left.now new c.args.maps.now.items)
+    IfOk-weaker c.skip.result (λ new. IsPassed (planned_area c.args.plan.now c.args.output) c.above.result new)
+    (λ new. IsFilled (planned_area c.args.plan.now c.args.output) c.args.left.now new c.args.maps.now.items)
     (λ new q. (
     let forward = q.forward in
-    passed_only (area_of c.args.plan.now c.args.output) c.args.left.now new c.args.maps.now.items c.requires.empty (omega (arith, ints, forward, some, row, at))
-    (passed_both (area_of c.args.plan.now c.args.output) c.args.left.now c.above.result new p q)
+    passed_only (planned_area c.args.plan.now c.args.output) c.args.left.now new c.args.maps.now.items c.requires.empty (omega (arith, ints, forward, some, row, at))
+    (passed_both (planned_area c.args.plan.now c.args.output) c.args.left.now c.above.result new p q)
     ))
     c.skip.ensures
 
@@ -68,7 +68,7 @@ returns c =
     let maps = subst (λ (ts : List Trapezoid).
     AreMapsOf c.lower-batch.result.mesh.size c.lower-batch.result.end ts c.put_maps.new.maps.items)
     c.as_slice.ensures.value c.in_ok-put_maps.ensures.maps in
-    filled (area_of c.args.plan.now c.args.output) c.args.left.now c.lower-batch.result c.put_maps.new.maps.items
+    filled (planned_area c.args.plan.now c.args.output) c.args.left.now c.lower-batch.result c.put_maps.new.maps.items
     c.requires.left c.lower-batch.ensures c.in_ok-put_maps.ensures.count
     (counts_from c.args.plan.now c.args.output c.lower-batch.result c.in_ok-traps.traps.items c.put_maps.new.maps.items
     c.lower-batch.ensures.batch c.in_ok-traps.ensures maps c.in_ok-put_maps.ensures.count)

@@ -5,7 +5,7 @@ use Rattle.std.specs.List.{All}
 use Rattle.half_grid.specs.JoinedLists.{IsInWindow}
 use Rattle.half_grid.specs.Trapezoids.{Trapezoid}
 use Rattle.density_report.specs.declared.strips.Mesh.{Mesh}
-use Rattle.density_report.specs.Saying.{area_of}
+use Rattle.deck_plan.specs.Plans.{planned_area}
 use Rattle.density_report.specs.Rows.{rows_of}
 use Rattle.density_report.proofs.AreaLemmas.{none_yet, first_passed, passed_as, passed_both, portion_more}
 use Rattle.density_report.proofs.StripLemmas.{gap_falls}
@@ -13,7 +13,7 @@ use Rattle.density_report.proofs.areas.skip.Goals as goal
 
 pub loop-rest-init : goal.loop-rest-init
 loop-rest-init c = record {
-  passed = none_yet (area_of c.args.plan.now c.args.output) c.args.left.now c.requires.left;
+  passed = none_yet (planned_area c.args.plan.now c.args.output) c.args.left.now c.requires.left;
   portion = c.requires.portion;
 }
 
@@ -46,8 +46,8 @@ returns-then-first-batch c =
     let l = c.loop-rest in
     let e = c.first_of-first.ensures in
     let new = c.from_strip-rest.ensures in
-    passed_both (area_of c.args.plan.now c.args.output) c.args.left.now l.rest c.from_strip-rest.result l.invariant.passed
-    (passed_as (area_of c.args.plan.now c.args.output) l.rest c.from_strip-rest.result c.first_of-first.result.row new.mesh new.row new.end
+    passed_both (planned_area c.args.plan.now c.args.output) c.args.left.now l.rest c.from_strip-rest.result l.invariant.passed
+    (passed_as (planned_area c.args.plan.now c.args.output) l.rest c.from_strip-rest.result c.first_of-first.result.row new.mesh new.row new.end
     (first_passed c.args.plan.now c.args.output l.rest c.lower-batch.result c.in_ok-traps.traps.items
     c.as_slice.result.now c.first_of-first.result l.invariant.passed.batch c.lower-batch.ensures
     c.in_ok-traps.ensures c.as_slice.ensures.value e.size e.from e.up_to e.below))
@@ -58,8 +58,8 @@ loop-rest-preserved c =
     let e = c.first_of-first.ensures in
     let new = c.from_strip-rest.ensures in
     record {
-      passed = passed_both (area_of c.args.plan.now c.args.output) c.args.left.now l.rest c.from_strip-rest.result l.invariant.passed
-          (passed_as (area_of c.args.plan.now c.args.output) l.rest c.from_strip-rest.result c.first_of-first.result.row new.mesh new.row new.end
+      passed = passed_both (planned_area c.args.plan.now c.args.output) c.args.left.now l.rest c.from_strip-rest.result l.invariant.passed
+          (passed_as (planned_area c.args.plan.now c.args.output) l.rest c.from_strip-rest.result c.first_of-first.result.row new.mesh new.row new.end
           (first_passed c.args.plan.now c.args.output l.rest c.lower-batch.result c.in_ok-traps.traps.items
           c.as_slice.result.now c.first_of-first.result l.invariant.passed.batch c.lower-batch.ensures
           c.in_ok-traps.ensures c.as_slice.ensures.value e.size e.from e.up_to e.below));

@@ -1,11 +1,11 @@
 use Rattle.std.specs.Int.{int_gap}
-use Rattle.density_report.specs.Saying.{area_of}
+use Rattle.deck_plan.specs.Plans.{planned_area}
 use Rattle.density_report.specs.Rows.{IsPassed, IsPortion}
 use Rattle.density_report.proofs.areas.skip.Given as goal
 
 abbrev pub invariant-loop-rest : goal.invariant-loop-rest
 invariant-loop-rest l = record {
-  passed : IsPassed (area_of l.plan l.output) l.left l.rest;
+  passed : IsPassed (planned_area l.plan l.output) l.left l.rest;
   portion : IsPortion l.left.mesh.size l.portion;
 }
 

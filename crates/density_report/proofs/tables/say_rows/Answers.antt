@@ -9,7 +9,7 @@ use Rattle.density_map.specs.declared.counts.Counted.{Counted}
 use Rattle.density_map.specs.Rows.{RowMap}
 use Rattle.density_report.specs.declared.entries.Entry.{Entry}
 use Rattle.density_report.specs.declared.strips.Mesh.{Mesh}
-use Rattle.density_report.specs.Saying.{area_of}
+use Rattle.deck_plan.specs.Plans.{planned_area}
 use Rattle.density_report.specs.Rows.{counted_line, entries_of, AreCountsFrom, AreRowCounts, AreTotals, HasNone}
 use Rattle.density_report.proofs.MapLemmas.{last_counts, rest_counts, no_counts}
 use Rattle.density_report.proofs.StripLemmas.{batch_of_rows, near_of_rows, from_parts, steps_left, steps_fall, filled_falls}
@@ -31,7 +31,7 @@ loop-left-init g c =
           (no_rows c.args.plan.now c.args.output c.args.mesh.now.size c.batch_of-left.result.row g.D.Depot.tells
           (g.D.Depot.content c.args.depot.now) c.args.buffer.now _ c.args.rows no_totals
           c.requires.outside hold.from);
-      counts = no_counts (area_of c.args.plan.now c.args.output) c.args.mesh.now.size c.batch_of-left.result.row
+      counts = no_counts (planned_area c.args.plan.now c.args.output) c.args.mesh.now.size c.batch_of-left.result.row
           c.new-maps.result.items c.new-maps.ensures.items;
       batch = batch;
       mesh = c.batch_of-left.ensures.mesh;
@@ -75,7 +75,7 @@ count_row-requires g c =
     let l = c.loop-left in
     let whole = c.in-Some.ensures.some in
     let more = last_counts
-    (area_of c.args.plan.now c.args.output) c.args.mesh.now.size l.left.row l.maps.items c.take_first.new.maps.items
+    (planned_area c.args.plan.now c.args.output) c.args.mesh.now.size l.left.row l.maps.items c.take_first.new.maps.items
     c.in-Some.map whole l.invariant.counts in
     record {
       few = few c.args.plan.now c.args.output c.args.mesh.now.size l.left.row g.D.Depot.tells
@@ -83,7 +83,7 @@ count_row-requires g c =
           (g.D.Depot.content l.depot) l.invariant.rows
           c.counts-counts.result.now c.requires.size c.counts-counts.ensures.counts
           (subst (λ (cs : List Counted). AreRowCounts
-          (area_of c.args.plan.now c.args.output) c.args.mesh.now.size l.left.row cs)
+          (planned_area c.args.plan.now c.args.output) c.args.mesh.now.size l.left.row cs)
           (sym c.counts-counts.ensures.value) more);
     }
 
@@ -93,7 +93,7 @@ returns-in_err-say_row-clause-refused g c =
     let fits : FitsSigned w64 c.loop-left.left.row = search rules in
     let whole = c.in-Some.ensures.some in
     let more = last_counts
-    (area_of c.args.plan.now c.args.output) c.args.mesh.now.size l.left.row l.maps.items c.take_first.new.maps.items
+    (planned_area c.args.plan.now c.args.output) c.args.mesh.now.size l.left.row l.maps.items c.take_first.new.maps.items
     c.in-Some.map whole l.invariant.counts in
     refused c.from_residual.result _ (λ told.
     row_cut c.args.plan.now c.args.output c.args.mesh.now.size l.left.row g.D.Depot.tells
@@ -101,7 +101,7 @@ returns-in_err-say_row-clause-refused g c =
     (g.D.Depot.content l.depot) l.invariant.rows
     c.counts-counts.result.now c.requires.size c.counts-counts.ensures.counts
     (subst (λ (cs : List Counted). AreRowCounts
-    (area_of c.args.plan.now c.args.output) c.args.mesh.now.size l.left.row cs)
+    (planned_area c.args.plan.now c.args.output) c.args.mesh.now.size l.left.row cs)
     (sym c.counts-counts.ensures.value) more)
     (g.D.Depot.content c.say_row.new.depot) told
     (subst (λ (r : ℤ). IsPartSaid (g.D.Depot.content l.depot)
@@ -133,7 +133,7 @@ loop-left-preserved g c =
     let within = l.invariant.inside in
     let same = c.after_first-left.ensures.end in
     let more = last_counts
-    (area_of c.args.plan.now c.args.output) c.args.mesh.now.size l.left.row l.maps.items c.take_first.new.maps.items
+    (planned_area c.args.plan.now c.args.output) c.args.mesh.now.size l.left.row l.maps.items c.take_first.new.maps.items
     c.in-Some.map whole l.invariant.counts in
     record {
       rows = rows_told c.note-in-loop-left.ensures.content
@@ -142,7 +142,7 @@ loop-left-preserved g c =
           (g.D.Depot.content l.depot) l.invariant.rows
           c.counts-counts.result.now c.requires.size c.counts-counts.ensures.counts
           (subst (λ (cs : List Counted). AreRowCounts
-          (area_of c.args.plan.now c.args.output) c.args.mesh.now.size l.left.row cs)
+          (planned_area c.args.plan.now c.args.output) c.args.mesh.now.size l.left.row cs)
           (sym c.counts-counts.ensures.value) more)
           c.count_row.new.totals c.say_row.new.buffer
           (g.D.Depot.content c.say_row.new.depot) c.after_first-left.result.row c.after_first-left.ensures.row
@@ -154,9 +154,9 @@ loop-left-preserved g c =
           c.say_row.new.buffer (g.D.Depot.content c.say_row.new.depot))
           (to_z-of_z w64 l.left.row fl) (c.in_ok-say_row.ensures.content.ok told)));
       counts = subst (λ (r : ℤ). AreCountsFrom
-          (area_of c.args.plan.now c.args.output) c.args.mesh.now.size r c.take_first.new.maps.items)
+          (planned_area c.args.plan.now c.args.output) c.args.mesh.now.size r c.take_first.new.maps.items)
           (sym c.after_first-left.ensures.row)
-          (rest_counts (area_of c.args.plan.now c.args.output) c.args.mesh.now.size l.left.row l.maps.items
+          (rest_counts (planned_area c.args.plan.now c.args.output) c.args.mesh.now.size l.left.row l.maps.items
           c.take_first.new.maps.items c.in-Some.map whole l.invariant.counts);
       batch = from_parts l.left c.after_first-left.result
           (l.left.row +ℤ pos 1) l.invariant.batch c.after_first-left.ensures.mesh c.after_first-left.ensures.row
@@ -185,14 +185,14 @@ pub loop-left-preserved-in_default : goal.loop-left-preserved-in_default
 loop-left-preserved-in_default g c =
     let l = c.loop-left in
     let f = c.in-Ok.ensures in
-    let none = subst (λ (m : Mesh). HasNone (area_of c.args.plan.now c.args.output) m.size l.left.row c.in-Ok.left.row) l.invariant.mesh f.passed.none in
+    let none = subst (λ (m : Mesh). HasNone (planned_area c.args.plan.now c.args.output) m.size l.left.row c.in-Ok.left.row) l.invariant.mesh f.passed.none in
     record {
       rows = rows_passed c.args.plan.now c.args.output c.args.mesh.now.size l.left.row g.D.Depot.tells
           (g.D.Depot.content c.args.depot.now) c.args.buffer.now l.totals l.buffer
           (g.D.Depot.content l.depot) l.invariant.rows
           c.in-Ok.left.row c.requires.size f.passed.forward none;
       counts = subst (λ (m : Mesh). AreCountsFrom
-          (area_of c.args.plan.now c.args.output) m.size c.in-Ok.left.row c.fill.new.maps.items) l.invariant.mesh
+          (planned_area c.args.plan.now c.args.output) m.size c.in-Ok.left.row c.fill.new.maps.items) l.invariant.mesh
           f.counts;
       batch = f.passed.batch;
       mesh = f.passed.mesh ∙ l.invariant.mesh;

@@ -1,5 +1,5 @@
 use Rattle.std.proofs.Common.{◌≡◌, pos, ◌+ℤ◌, ◌*ℤ◌, ◌≤ℤ◌, length}
-use Rattle.density_report.specs.Saying.{area_of}
+use Rattle.deck_plan.specs.Plans.{planned_area}
 use Rattle.density_report.specs.Rows.{AreCountsFrom, IsBatch}
 use Rattle.density_report.proofs.StripLemmas.{steps_left}
 use Rattle.density_report.proofs.RowSteps.{AreRowsSoFar}
@@ -9,7 +9,7 @@ abbrev pub invariant-loop-left : goal.invariant-loop-left
 invariant-loop-left g l = record {
   rows : AreRowsSoFar l.fn.plan l.fn.output l.fn.mesh.size l.left.row g.D.Depot.tells
       (g.D.Depot.content l.fn.depot) l.fn.buffer l.totals l.buffer (g.D.Depot.content l.depot);
-  counts : AreCountsFrom (area_of l.fn.plan l.fn.output) l.fn.mesh.size l.left.row l.maps.items;
+  counts : AreCountsFrom (planned_area l.fn.plan l.fn.output) l.fn.mesh.size l.left.row l.maps.items;
   batch : IsBatch l.left;
   mesh : l.left.mesh ≡ l.fn.mesh;
   inside : (l.left.row +ℤ pos (length l.maps.items)) ≤ℤ l.left.end;

@@ -5,11 +5,12 @@ use Rattle.std.proofs.lemmas.Option.{IfSome_then}
 use Rattle.half_grid.specs.Trapezoids.{CoversExactly}
 use Rattle.half_grid.specs.Windows.{RowRange}
 use Rattle.deck_text.specs.declared.deck.Deck.{Deck}
-use Rattle.file_check.specs.Certificates.{area_of, IsFirstFault}
+use Rattle.file_check.specs.Certificates.{IsFirstWrongTile}
 use Rattle.file_check.specs.Fronts.{IsFrontAt, IsJudgedTo}
 use Rattle.file_check.proofs.FaultLemmas.{none_weaker}
 use Rattle.file_check.proofs.Covers.{first_front, is_band, fewer_rows, first_fault, first_none, last_fault, last_none}
 use Rattle.file_check.proofs.certificates.fault_of_output.Goals as goal
+use Rattle.deck_plan.specs.Plans.{planned_area}
 
 pub returns-in-Some-clause-fault : goal.returns-in-Some-clause-fault
 returns-in-Some-clause-fault c =
@@ -113,8 +114,8 @@ returns-clause-fault c =
     let at = subst (λ y. IsFrontAt c.args.shots.now y c.loop-deck.front.meeting.items c.loop-deck.front.later.now) (sym bottom) i.judged.passed in
     IfOk-weaker c.fault_in-2.result _
     (λ answer. IfSome answer
-    (λ fault. IsFirstFault
-    (area_of c.args.plan.now c.args.output) c.args.shots.now fault.tile fault.count fault.wanted))
+    (λ fault. IsFirstWrongTile
+    (planned_area c.args.plan.now c.args.output) c.args.shots.now fault.tile fault.count fault.wanted))
     (λ answer h. IfSome_then answer h
     (λ fault. last_fault c.args.plan.now c.args.output c.args.shots.now c.rows-rows.result
     c.rows-rows.ensures.outside c.rows_from.result c.loop-deck.band.y0 c.rows_from.ensures over
@@ -130,7 +131,7 @@ returns-clause-none c =
     let over : c.rows-rows.result.y1 ≤ℤ c.loop-deck.band.y0 = omega (arith, ints, low, high, test) in
     let bottom : c.rows_from.result.y0 ≡ c.loop-deck.band.y0 = ap (λ (w : RowRange). w.y0) c.rows_from.ensures in
     let at = subst (λ y. IsFrontAt c.args.shots.now y c.loop-deck.front.meeting.items c.loop-deck.front.later.now) (sym bottom) i.judged.passed in
-    IfOk-weaker c.fault_in-2.result _ (λ answer. IfNone answer (CoversExactly c.args.shots.now (area_of c.args.plan.now c.args.output)))
+    IfOk-weaker c.fault_in-2.result _ (λ answer. IfNone answer (CoversExactly c.args.shots.now (planned_area c.args.plan.now c.args.output)))
     (λ answer. none_weaker answer
     (last_none c.args.plan.now c.args.output c.args.shots.now c.rows-rows.result c.rows-rows.ensures.outside
     c.rows_from.result c.loop-deck.band.y0 c.rows_from.ensures over c.rows-rows.ensures.high c.requires.shots

@@ -1,7 +1,7 @@
 use Rattle.std.proofs.Common.{IfSome, IfNone}
 use Rattle.std.proofs.lemmas.Result.{IfOk-weaker}
 use Rattle.std.proofs.lemmas.Option.{IfSome_then}
-use Rattle.shot_checker.specs.Verdicts.{IsFirstFault, CoversAlike}
+use Rattle.shot_checker.specs.Verdicts.{IsFirstWrongTileInRows, CoversAlike}
 use Rattle.file_check.proofs.FaultLemmas.{fault_of_all, alike_for_all, none_weaker, always_ok}
 use Rattle.file_check.proofs.front.fault_in.Goals as goal
 
@@ -11,7 +11,7 @@ returns-clause-front c = λ shots at. always_ok c.first_fault.result (c.in_ok-go
 pub returns-clause-fault : goal.returns-clause-fault
 returns-clause-fault c = λ shots at.
     let same = c.in_ok-go_on.ensures.counts shots at in
-    IfOk-weaker c.first_fault.result _ (λ answer. IfSome answer (λ fault. IsFirstFault shots c.args.area.now c.args.window fault.tile fault.count fault.wanted))
+    IfOk-weaker c.first_fault.result _ (λ answer. IfSome answer (λ fault. IsFirstWrongTileInRows shots c.args.area.now c.args.window fault.tile fault.count fault.wanted))
     (λ answer h. IfSome_then answer h (λ fault. fault_of_all shots _ c.args.area.now c.args.window same fault.tile fault.count fault.wanted))
     (rw c.as_slice.ensures.value at c.first_fault.ensures.fault)
 

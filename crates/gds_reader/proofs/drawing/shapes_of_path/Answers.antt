@@ -5,7 +5,7 @@ use Rattle.geo_stream.specs.Refusals.{IsForFault}
 use Rattle.geo_stream.specs.declared.refusal.Refusal.TheVariants.{NoMemory as Wanting}
 use Rattle.layout_model.specs.declared.paths.PathBad.TheVariants as paths
 use Rattle.gds_reader.specs.Refused.{IsRefusedBy}
-use Rattle.gds_reader.specs.Values.{KeepsPath}
+use Rattle.gds_reader.specs.Values.{KeepsGdsiiPath}
 use Rattle.gds_reader.proofs.drawing.shapes_of_path.Goals as goal
 use Rattle.gds_reader.proofs.GridLemmas.{all_within}
 use Rattle.gds_reader.proofs.DrawLemmas.{path_items, path_grid, path_broken, wanting_path}
@@ -51,7 +51,7 @@ returns c = record {
       let none = simp to_z-of_z at c.in-Err.ensures.none in
       let ok = simp to_z-of_z at c.in-Err.ensures.ok in
       let wide : c.args.brush.half ≢ pos 0 = λ zero. none zero in
-      subst (IsForFault (IsRefusedBy (KeepsPath c.args.brush.half c.args.brush.begin c.args.brush.end c.args.points.now) c.args.at))
+      subst (IsForFault (IsRefusedBy (KeepsGdsiiPath c.args.brush.half c.args.brush.begin c.args.brush.end c.args.points.now) c.args.at))
       (sym c.path_refusal.ensures)
       (path_broken c.args.brush.half c.args.brush.begin c.args.brush.end c.args.points.now c.in-Err.bad c.args.at wide
       (λ more drawable. elim (ok wide drawable) [ inl some ↦ absurd (cc) | inr wanting ↦ more (cc) ]));

@@ -2,7 +2,7 @@ use Rattle.std.proofs.Common.{ℤ, pos, Err, FitsSigned, w64, rules, ap, subst, 
 use Rattle.std.proofs.lemmas.Int.{ints, to_z-of_z}
 use Rattle.depot.specs.Counts.{Rose}
 use Rattle.density_map.specs.Windows.{IsWindowSize}
-use Rattle.density_report.specs.Saying.{IsSaid, IsCutShort}
+use Rattle.density_report.specs.Saying.{IsSaid, IsDensityCutShort}
 use Rattle.mdp_job.specs.Densities.{AreCounted}
 use Rattle.mdp_job.proofs.DensityRows.{counted_done, counted_cut}
 use Rattle.job_report.specs.declared.status.Status.{Status}
@@ -29,8 +29,8 @@ returns-clause-counted_so g c = λ told.
     let sized : IsWindowSize (pos c.args.size) =
     record { low = omega (arith, ints, c.requires.size.0); high = omega (arith, ints, c.requires.size.1) } in
     let fits : FitsSigned w64 c.from.result = search rules in
-    let cut : IsCutShort c.in-Ok.plan (pos c.args.size) (at c.args.depot.now) (at c.say_densities.new.depot) =
-    subst (λ (z : ℤ). IsCutShort c.in-Ok.plan z (at c.args.depot.now) (at c.say_densities.new.depot))
+    let cut : IsDensityCutShort c.in-Ok.plan (pos c.args.size) (at c.args.depot.now) (at c.say_densities.new.depot) =
+    subst (λ (z : ℤ). IsDensityCutShort c.in-Ok.plan z (at c.args.depot.now) (at c.say_densities.new.depot))
     (to_z-of_z w64 c.from.result fits ∙ c.from.ensures) (c.in-Err.ensures.refused told) in
     subst (λ (s : Status). AreCounted (at c.args.depot.now) (at c.say_densities.new.depot)
     (Rose (counts c.args.depot.now).write_faults (counts c.say_densities.new.depot).write_faults) (pos c.args.size)

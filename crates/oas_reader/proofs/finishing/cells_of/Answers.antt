@@ -8,7 +8,7 @@ use Rattle.oas_reader.specs.Behind.{AreCellsBehind}
 use Rattle.oas_reader.specs.Finished.{AreTwins, cells_by, cell_items}
 use Rattle.oas_reader.specs.Items.{records_in}
 use Rattle.oas_reader.specs.Names.{first_twins}
-use Rattle.oas_reader.specs.Reading.{IsFaultOf}
+use Rattle.oas_reader.specs.Reading.{IsFaultOfNames}
 use Rattle.oas_reader.specs.Readers.{IsDraftWithin, IsDraftOnGrid, whole_cell}
 use Rattle.oas_reader.proofs.CellLemmas.{all_of, all_within, all_grid, all_cells}
 use Rattle.oas_reader.proofs.BehindLemmas.{ok_with, cells_are_behind, distinct_behind, fault_behind}
@@ -58,5 +58,5 @@ returns-in-Ok-finish-clause-bad c = λ wanted past last names are ends none.
     let drafts = c.in-Ok-finish.drafts.items in
     let whole = ap (map whole_cell) c.in-Ok-finish.ensures ∙ all_cells wanted (last ∷ past) c.args.drafts are in
     let known = c.in-Ok.ensures.known bytes (last ∷ past) names in
-    IfErr-weaker c.distinct_cells.result (IsForFault (AreTwins bytes all (cell_items drafts))) (IsForFault (IsFaultOf bytes (last ∷ past)))
+    IfErr-weaker c.distinct_cells.result (IsForFault (AreTwins bytes all (cell_items drafts))) (IsForFault (IsFaultOfNames bytes (last ∷ past)))
     (λ refusal twins. fault_behind bytes wanted (last ∷ past) drafts refusal whole known twins) (c.distinct_cells.ensures.twins (last ∷ past) names)

@@ -1,5 +1,5 @@
 use Rattle.std.proofs.Common.{refl, [], ◌∷◌, inl, inr}
-use Rattle.oas_record.specs.Repetitions.{rep_rows, row_at, RowFails, Just}
+use Rattle.oas_record.specs.Repetitions.{rep_rows, row_at, RepetitionRowFails, Just}
 use Rattle.oas_record.proofs.Refusals.{handed_on}
 use Rattle.oas_record.proofs.RepLemmas.{two, dims, fails_after_two}
 use Rattle.oas_record.proofs.repetition_readers.grid.Goals as goal
@@ -24,7 +24,7 @@ returns-clause-ok c = (
 
 pub returns-in_err-x_space-clause-bad : goal.returns-in_err-x_space-clause-bad
 returns-in_err-x_space-clause-bad c =
-    let fails : RowFails (row_at rep_rows 1) c.args.bytes.now c.args.at c.in_err-x_space.field-0.0 =
+    let fails : RepetitionRowFails (row_at rep_rows 1) c.args.bytes.now c.args.at c.in_err-x_space.field-0.0 =
     fails_after_two (record { dims = 2; numbers = Just 2; deltas = Just 0 }) c.args.bytes.now c.args.at
     c.in_ok-x_stored.x_stored c.in_ok-x_stored.second c.in_ok-y_stored.y_stored c.in_ok-y_stored.first
     c.in_err-x_space.field-0.0 refl c.in_ok-x_stored.ensures.ok c.in_ok-y_stored.ensures.ok
@@ -33,7 +33,7 @@ returns-in_err-x_space-clause-bad c =
 
 pub returns-in_err-y_space-clause-bad : goal.returns-in_err-y_space-clause-bad
 returns-in_err-y_space-clause-bad c =
-    let fails : RowFails (row_at rep_rows 1) c.args.bytes.now c.args.at c.in_err-y_space.field-0.0 =
+    let fails : RepetitionRowFails (row_at rep_rows 1) c.args.bytes.now c.args.at c.in_err-y_space.field-0.0 =
     fails_after_two (record { dims = 2; numbers = Just 2; deltas = Just 0 }) c.args.bytes.now c.args.at
     c.in_ok-x_stored.x_stored c.in_ok-x_stored.second c.in_ok-y_stored.y_stored c.in_ok-y_stored.first
     c.in_err-y_space.field-0.0 refl c.in_ok-x_stored.ensures.ok c.in_ok-y_stored.ensures.ok

@@ -1,5 +1,5 @@
 use Rattle.std.proofs.Common.{refl, [], ◌∷◌, inl, inr}
-use Rattle.oas_record.specs.Repetitions.{rep_rows, row_at, RowFails, Just}
+use Rattle.oas_record.specs.Repetitions.{rep_rows, row_at, RepetitionRowFails, Just}
 use Rattle.oas_record.proofs.Refusals.{handed_on}
 use Rattle.oas_record.proofs.RepLemmas.{two, dims, fails_after_two}
 use Rattle.oas_record.proofs.repetition_readers.lattice.Goals as goal
@@ -23,7 +23,7 @@ returns-clause-ok c = (
 
 pub returns-in_err-u-clause-bad : goal.returns-in_err-u-clause-bad
 returns-in_err-u-clause-bad c =
-    let fails : RowFails (row_at rep_rows 8) c.args.bytes.now c.args.at c.in_err-u.field-0.0 =
+    let fails : RepetitionRowFails (row_at rep_rows 8) c.args.bytes.now c.args.at c.in_err-u.field-0.0 =
     fails_after_two (record { dims = 2; numbers = Just 0; deltas = Just 2 }) c.args.bytes.now c.args.at
     c.in_ok-n_stored.n_stored c.in_ok-n_stored.second c.in_ok-m_stored.m_stored c.in_ok-m_stored.first
     c.in_err-u.field-0.0 refl c.in_ok-n_stored.ensures.ok c.in_ok-m_stored.ensures.ok
@@ -32,7 +32,7 @@ returns-in_err-u-clause-bad c =
 
 pub returns-in_err-v-clause-bad : goal.returns-in_err-v-clause-bad
 returns-in_err-v-clause-bad c =
-    let fails : RowFails (row_at rep_rows 8) c.args.bytes.now c.args.at c.in_err-v.field-0.0 =
+    let fails : RepetitionRowFails (row_at rep_rows 8) c.args.bytes.now c.args.at c.in_err-v.field-0.0 =
     fails_after_two (record { dims = 2; numbers = Just 0; deltas = Just 2 }) c.args.bytes.now c.args.at
     c.in_ok-n_stored.n_stored c.in_ok-n_stored.second c.in_ok-m_stored.m_stored c.in_ok-m_stored.first
     c.in_err-v.field-0.0 refl c.in_ok-n_stored.ensures.ok c.in_ok-m_stored.ensures.ok

@@ -1,5 +1,5 @@
 use Rattle.std.proofs.Common.{refl, [], ◌∷◌, inl, inr}
-use Rattle.oas_record.specs.Repetitions.{rep_rows, row_at, RowFails, Just}
+use Rattle.oas_record.specs.Repetitions.{rep_rows, row_at, RepetitionRowFails, Just}
 use Rattle.oas_record.proofs.Refusals.{handed_on}
 use Rattle.oas_record.proofs.RepLemmas.{one, dim, fails_after}
 use Rattle.oas_record.proofs.repetition_readers.line.Goals as goal
@@ -22,7 +22,7 @@ returns-clause-ok c = (
 
 pub returns-in_err-u-clause-bad : goal.returns-in_err-u-clause-bad
 returns-in_err-u-clause-bad c =
-    let fails : RowFails (row_at rep_rows 9) c.args.bytes.now c.args.at c.in_err-u.field-0.0 =
+    let fails : RepetitionRowFails (row_at rep_rows 9) c.args.bytes.now c.args.at c.in_err-u.field-0.0 =
     fails_after (record { dims = 1; numbers = Just 0; deltas = Just 1 }) c.args.bytes.now c.args.at
     c.in_ok-stored.stored c.in_ok-stored.first c.in_err-u.field-0.0 refl c.in_ok-stored.ensures.ok
     (inr ([], c.in_ok-stored.first, (refl, refl), inl c.in_err-u.ensures.bad)) in

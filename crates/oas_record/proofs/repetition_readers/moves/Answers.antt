@@ -1,6 +1,6 @@
 use Rattle.std.proofs.Common.{refl, [], ◌∷◌, inr, subst, ◌∙◌}
 use Rattle.oas_record.specs.Lists.{NoDeltas}
-use Rattle.oas_record.specs.Repetitions.{rep_rows, row_at, RowFails, Just, AndFewer}
+use Rattle.oas_record.specs.Repetitions.{rep_rows, row_at, RepetitionRowFails, Just, AndFewer}
 use Rattle.oas_record.specs.declared.delta_form.DeltaForm.TheVariants.{GDelta}
 use Rattle.oas_record.proofs.Refusals.{handed_on}
 use Rattle.oas_record.proofs.RepLemmas.{one, dim, fewer, fails_after}
@@ -24,7 +24,7 @@ returns-clause-ok c = (
 
 pub returns-in_err-moves-clause-bad : goal.returns-in_err-moves-clause-bad
 returns-in_err-moves-clause-bad c =
-    let fails : RowFails (row_at rep_rows 10) c.args.bytes.now c.args.at c.in_err-moves.field-0.0 =
+    let fails : RepetitionRowFails (row_at rep_rows 10) c.args.bytes.now c.args.at c.in_err-moves.field-0.0 =
     fails_after (record { dims = 1; numbers = Just 0; deltas = AndFewer 0 }) c.args.bytes.now c.args.at
     c.in_ok-stored.stored c.in_ok-stored.first c.in_err-moves.field-0.0 refl c.in_ok-stored.ensures.ok
     (inr (

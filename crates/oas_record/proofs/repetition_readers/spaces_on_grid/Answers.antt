@@ -1,6 +1,6 @@
 use Rattle.std.proofs.Common.{refl, [], ◌∷◌, inl, inr, arith, subst}
 use Rattle.oas_record.specs.Lists.{NoNumbers}
-use Rattle.oas_record.specs.Repetitions.{rep_rows, row_at, RowFails, Just, AndFewer}
+use Rattle.oas_record.specs.Repetitions.{rep_rows, row_at, RepetitionRowFails, Just, AndFewer}
 use Rattle.oas_record.proofs.Refusals.{handed_on}
 use Rattle.oas_record.proofs.RepLemmas.{one, dim, one_and_fewer, fails_after}
 use Rattle.oas_record.proofs.repetition_readers.spaces_on_grid.Goals as goal
@@ -23,7 +23,7 @@ returns-clause-ok c = (
 
 pub returns-in_err-grid-clause-bad : goal.returns-in_err-grid-clause-bad
 returns-in_err-grid-clause-bad c =
-    let fails : RowFails (row_at rep_rows 5) c.args.bytes.now c.args.at c.in_err-grid.field-0.0 =
+    let fails : RepetitionRowFails (row_at rep_rows 5) c.args.bytes.now c.args.at c.in_err-grid.field-0.0 =
     fails_after (record { dims = 1; numbers = AndFewer 1; deltas = Just 0 }) c.args.bytes.now c.args.at
     c.in_ok-stored.stored c.in_ok-stored.grid_at c.in_err-grid.field-0.0 refl c.in_ok-stored.ensures.ok
     (inl (subst (λ n. NoNumbers n c.args.bytes.now c.in_ok-stored.grid_at c.in_err-grid.field-0.0)
@@ -32,7 +32,7 @@ returns-in_err-grid-clause-bad c =
 
 pub returns-in_err-spaces-clause-bad : goal.returns-in_err-spaces-clause-bad
 returns-in_err-spaces-clause-bad c =
-    let fails : RowFails (row_at rep_rows 5) c.args.bytes.now c.args.at c.in_err-spaces.field-0.0 =
+    let fails : RepetitionRowFails (row_at rep_rows 5) c.args.bytes.now c.args.at c.in_err-spaces.field-0.0 =
     fails_after (record { dims = 1; numbers = AndFewer 1; deltas = Just 0 }) c.args.bytes.now c.args.at
     c.in_ok-stored.stored c.in_ok-stored.grid_at c.in_err-spaces.field-0.0 refl c.in_ok-stored.ensures.ok
     (inl (subst (λ n. NoNumbers n c.args.bytes.now c.in_ok-stored.grid_at c.in_err-spaces.field-0.0)

@@ -6,7 +6,7 @@ use Rattle.layout_model.specs.Layouts.{IsShapeOnGrid}
 use Rattle.oas_shapes.specs.Brushes.{halves_of, AreHalves}
 use Rattle.oas_shapes.specs.Outlines.{path_points}
 use Rattle.oas_shapes.specs.Repetitions.{offsets_in}
-use Rattle.oas_shapes.specs.Rules.{KeepsPath, IsLowest}
+use Rattle.oas_shapes.specs.Rules.{KeepsOasisPath, IsLowest}
 use Rattle.oas_shapes.proofs.PathListLemmas.{added, its_path, reach_by, near_by, drawn_by_brush, drawn_without_width, on_ok_two, all_on_grid}
 use Rattle.oas_shapes.proofs.PathListLemmas.{course_keeps, course_lowest}
 use Rattle.oas_shapes.proofs.RuleLemmas.{path_keeps, path_lowest}
@@ -14,28 +14,28 @@ use Rattle.oas_shapes.proofs.drawing.draw_path.Goals as goal
 
 pub returns-in_default-clause-broken : goal.returns-in_default-clause-broken
 returns-in_default-clause-broken c = λ rule e.
-    subst (λ d. IsLowest (KeepsPath c.args.at c.args.brush d (option_copied c.args.repetition)) rule) c.written.ensures (c.draw_course.ensures.broken rule e)
+    subst (λ d. IsLowest (KeepsOasisPath c.args.at c.args.brush d (option_copied c.args.repetition)) rule) c.written.ensures (c.draw_course.ensures.broken rule e)
 
 pub returns-in_default-way_to-clause-kept : goal.returns-in_default-way_to-clause-kept
 returns-in_default-way_to-clause-kept c =
     subst
-    (λ d. OnOk c.draw_course-in_default-way_to.result ((rule : ℕ) → KeepsPath c.args.at c.args.brush d (option_copied c.args.repetition) rule))
+    (λ d. OnOk c.draw_course-in_default-way_to.result ((rule : ℕ) → KeepsOasisPath c.args.at c.args.brush d (option_copied c.args.repetition) rule))
     c.written-in_default-way_to.ensures c.draw_course-in_default-way_to.ensures.kept
 
 pub returns-in_default-way_to-clause-broken : goal.returns-in_default-way_to-clause-broken
 returns-in_default-way_to-clause-broken c = λ rule e.
-    subst (λ d. IsLowest (KeepsPath c.args.at c.args.brush d (option_copied c.args.repetition)) rule) c.written-in_default-way_to.ensures
+    subst (λ d. IsLowest (KeepsOasisPath c.args.at c.args.brush d (option_copied c.args.repetition)) rule) c.written-in_default-way_to.ensures
     (c.draw_course-in_default-way_to.ensures.broken rule e)
 
 pub returns-in_default-drawn_by-clause-kept : goal.returns-in_default-drawn_by-clause-kept
 returns-in_default-drawn_by-clause-kept c =
     subst
-    (λ d. OnOk c.draw_course-in_default-drawn_by.result ((rule : ℕ) → KeepsPath c.args.at c.args.brush d (option_copied c.args.repetition) rule))
+    (λ d. OnOk c.draw_course-in_default-drawn_by.result ((rule : ℕ) → KeepsOasisPath c.args.at c.args.brush d (option_copied c.args.repetition) rule))
     c.written-in_default-drawn_by.ensures c.draw_course-in_default-drawn_by.ensures.kept
 
 pub returns-in_default-drawn_by-clause-broken : goal.returns-in_default-drawn_by-clause-broken
 returns-in_default-drawn_by-clause-broken c = λ rule e.
-    subst (λ d. IsLowest (KeepsPath c.args.at c.args.brush d (option_copied c.args.repetition)) rule) c.written-in_default-drawn_by.ensures
+    subst (λ d. IsLowest (KeepsOasisPath c.args.at c.args.brush d (option_copied c.args.repetition)) rule) c.written-in_default-drawn_by.ensures
     (c.draw_course-in_default-drawn_by.ensures.broken rule e)
 
 pub returns-then-has_no_width-clause-kept : goal.returns-then-has_no_width-clause-kept

@@ -1,6 +1,6 @@
 use Rattle.std.proofs.Common.{◌∷◌, ◌∙◌, map, sym, ap, subst}
 use Rattle.layout_model.specs.Images.{moved, enlarged}
-use Rattle.oas_shapes.specs.Plane.{origin, places_along, IsNear}
+use Rattle.oas_shapes.specs.Plane.{origin, places_along, IsNearInSteps}
 use Rattle.oas_shapes.specs.Trails.{IsTrail}
 use Rattle.oas_shapes.proofs.TrailLemmas.{trail_far, few_mapped, no_refusal}
 use Rattle.oas_shapes.proofs.trails.along_grid.Goals as goal
@@ -13,7 +13,7 @@ returns-in_default-times-clause-far c = λ e near.
     let t = subst (λ xs. IsTrail whole c.loop-step.trail (map way xs)) c.in-Some.ensures c.loop-step.invariant in
     let far = c.in_default-times.ensures.none c.loop-step.trail.at c.loop-step.invariant.here in
     trail_far whole c.loop-step.trail (way c.in-Some.step) rest t
-    (subst (λ q. ¬ IsNear (moved c.loop-step.trail.at (enlarged c.args.grid q))) c.widened.ensures far) near
+    (subst (λ q. ¬ IsNearInSteps (moved c.loop-step.trail.at (enlarged c.args.grid q))) c.widened.ensures far) near
 
 pub loop-step-preserved : goal.loop-step-preserved
 loop-step-preserved c =

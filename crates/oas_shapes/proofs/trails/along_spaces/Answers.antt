@@ -1,7 +1,7 @@
 use Rattle.std.proofs.Common.{ℕ, ◌∷◌, ◌∙◌, map, sym, ap, subst}
 use Rattle.half_grid.specs.declared.plane.Point.{Point}
 use Rattle.layout_model.specs.Images.{moved, enlarged}
-use Rattle.oas_shapes.specs.Plane.{origin, places_along, IsNear}
+use Rattle.oas_shapes.specs.Plane.{origin, places_along, IsNearInSteps}
 use Rattle.oas_shapes.specs.Trails.{IsTrail}
 use Rattle.oas_shapes.specs.Ways.{towards}
 use Rattle.oas_shapes.proofs.TrailLemmas.{trail_far, few_mapped, no_refusal}
@@ -15,7 +15,7 @@ returns-in_default-times-clause-far c = λ e near.
     let t = subst (λ xs. IsTrail whole c.loop-space.trail (map way xs)) c.in-Some.ensures c.loop-space.invariant in
     let far = c.in_default-times.ensures.none c.loop-space.trail.at c.loop-space.invariant.here in
     trail_far whole c.loop-space.trail (way c.in-Some.space) rest t
-    (subst (λ q. ¬ IsNear (moved c.loop-space.trail.at (enlarged c.args.grid q))) c.towards.ensures far) near
+    (subst (λ q. ¬ IsNearInSteps (moved c.loop-space.trail.at (enlarged c.args.grid q))) c.towards.ensures far) near
 
 pub loop-space-preserved : goal.loop-space-preserved
 loop-space-preserved c =

@@ -1,6 +1,6 @@
 use Rattle.std.proofs.Common.{◌∙◌, map, refl, sym, ap, subst, ◌≡◌, ◌↔◌}
 use Rattle.layout_model.specs.Images.{moved, enlarged}
-use Rattle.oas_shapes.specs.Plane.{origin, doubled, places_along, IsNear}
+use Rattle.oas_shapes.specs.Plane.{origin, doubled, places_along, IsNearInSteps}
 use Rattle.oas_shapes.specs.Rules.{AreNear}
 use Rattle.oas_shapes.proofs.TrailLemmas.{stays_on, strays, stayed}
 use Rattle.oas_shapes.proofs.trails.moves_stay_near.Goals as goal
@@ -27,7 +27,7 @@ returns-in-None c =
     let whole = places_along origin (map way c.args.moves.now) in
     let at = c.loop-step.at in
     let same = subst (λ xs. AreNear (map doubled (places_along at (map way xs))) ↔ AreNear (map doubled whole)) c.in-Some.ensures c.loop-step.invariant.same in
-    let far = subst (λ q. ¬ IsNear (moved at (enlarged c.args.grid q))) c.widened.ensures c.in-None.ensures.none in (
+    let far = subst (λ q. ¬ IsNearInSteps (moved at (enlarged c.args.grid q))) c.widened.ensures c.in-None.ensures.none in (
       λ yes. absurd (cc),
       λ near. absurd (strays (map doubled whole) at (way c.in-Some.step) (map way c.next.new.self) c.loop-step.invariant.here same far near),
     )

@@ -1,7 +1,7 @@
 use Rattle.std.proofs.Common.{ℕ, ◌∙◌, map, refl, sym, ap, subst, ◌≡◌, ◌↔◌}
 use Rattle.half_grid.specs.declared.plane.Point.{Point}
 use Rattle.layout_model.specs.Images.{moved, enlarged}
-use Rattle.oas_shapes.specs.Plane.{origin, doubled, places_along, IsNear}
+use Rattle.oas_shapes.specs.Plane.{origin, doubled, places_along, IsNearInSteps}
 use Rattle.oas_shapes.specs.Rules.{AreNear}
 use Rattle.oas_shapes.specs.Ways.{towards}
 use Rattle.oas_shapes.proofs.TrailLemmas.{stays_on, strays, stayed}
@@ -29,7 +29,7 @@ returns-in-None c =
     let whole = places_along origin (map way c.args.spaces.now) in
     let at = c.loop-space.at in
     let same = subst (λ xs. AreNear (map doubled (places_along at (map way xs))) ↔ AreNear (map doubled whole)) c.in-Some.ensures c.loop-space.invariant.same in
-    let far = subst (λ q. ¬ IsNear (moved at (enlarged c.args.grid q))) c.towards.ensures c.in-None.ensures.none in (
+    let far = subst (λ q. ¬ IsNearInSteps (moved at (enlarged c.args.grid q))) c.towards.ensures c.in-None.ensures.none in (
       λ yes. absurd (cc),
       λ near. absurd (strays (map doubled whole) at (way c.in-Some.space) (map way c.next.new.self) c.loop-space.invariant.here same far near),
     )

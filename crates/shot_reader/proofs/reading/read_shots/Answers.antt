@@ -3,7 +3,7 @@ use Rattle.std.specs.Prelude.{flat_map, All}
 use Rattle.std.proofs.Math.Seq.{drop-length}
 use Rattle.half_grid.specs.Trapezoids.{Trapezoid, IsShot}
 use Rattle.oas_lex.specs.ShotText.{spelling_of}
-use Rattle.shot_reader.specs.Refusals.{IsFirstFault}
+use Rattle.shot_reader.specs.Refusals.{IsFirstShotFault}
 use Rattle.shot_reader.specs.declared.refusing.ShotBad.TheVariants as faults
 use Rattle.shot_reader.proofs.Ids.{first_byte}
 use Rattle.shot_reader.proofs.Rests.{found_next, not_nil, file_of, up_to, all_more}
@@ -13,7 +13,7 @@ use Rattle.shot_reader.proofs.reading.read_shots.Goals.{then-loop-at-test+else-b
 
 -- ---- no head
 
-no_head : (c : goal.After-longest_head) → IsFirstFault c.args.bytes.now (faults.Head c.longest_head.result)
+no_head : (c : goal.After-longest_head) → IsFirstShotFault c.args.bytes.now (faults.Head c.longest_head.result)
 no_head c =
     inl (
       c.longest_head.result,
@@ -36,7 +36,7 @@ returns-in_default-clause-every_fault c = told c.args.bytes.now _ _ refl (no_hea
 
 -- ---- a record
 
-record_fault : (c : goal.After-drop-shots-inside) → IsFirstFault c.args.bytes.now c.in-Err.bad
+record_fault : (c : goal.After-drop-shots-inside) → IsFirstShotFault c.args.bytes.now c.in-Err.bad
 record_fault c =
     read_fault c.args.bytes.now c.in-Some.first c.loop-at.at c.in-Some.unit c.loop-at.pair c.loop-at.shots _
     c.in-Some.ensures.found.0 c.loop-at.invariant.within c.in-Some.ensures.found.2 c.loop-at.invariant.pair
@@ -71,7 +71,7 @@ loop-at-preserved c =
 
 -- ---- the bytes end
 
-cut : (c : goal.After-drop-shots-inside-then-at-bytes) → IsFirstFault c.args.bytes.now (faults.Record c.loop-at.at)
+cut : (c : goal.After-drop-shots-inside-then-at-bytes) → IsFirstShotFault c.args.bytes.now (faults.Record c.loop-at.at)
 cut c =
     read_fault c.args.bytes.now c.in-Some.first c.loop-at.at c.in-Some.unit c.loop-at.pair c.loop-at.shots _
     c.in-Some.ensures.found.0 c.loop-at.invariant.within c.in-Some.ensures.found.2 c.loop-at.invariant.pair
@@ -90,7 +90,7 @@ returns-then-at-bytes-clause-every_fault c = told c.args.bytes.now _ _ refl (cut
 
 -- ---- END
 
-last : (c : goal.After-drop-shots-inside-then-not-ends_at) → IsFirstFault c.args.bytes.now (faults.End c.loop-at.at)
+last : (c : goal.After-drop-shots-inside-then-not-ends_at) → IsFirstShotFault c.args.bytes.now (faults.End c.loop-at.at)
 last c =
     let two : get_or (drop c.loop-at.at c.args.bytes.now) 0 0 ≡ 2 = elim c.loop-at-test.branch [
       | then-loop-at-test+else-bytes-at-ne-END w ↦ omega (arith, first_byte c.args.bytes.now c.loop-at.at, w.if-bytes-at-ne-END.false)

@@ -1,5 +1,5 @@
 use Rattle.std.proofs.Common.{refl, inl, []}
-use Rattle.shot_repeat.specs.Refusals.{IsFirstFault}
+use Rattle.shot_repeat.specs.Refusals.{IsFirstPackFault}
 use Rattle.shot_repeat.specs.declared.refusing.PackBad.TheVariants as faults
 use Rattle.shot_repeat.proofs.Files.{file_right, one_file, told, told_of}
 use Rattle.shot_repeat.proofs.Progressing.{none_read, wanting_by, ok_by, err_by}
@@ -7,7 +7,7 @@ use Rattle.shot_repeat.proofs.packed_file.read_packed.Goals as goal
 
 -- ---- no head
 
-no_head : (c : goal.After-longest_head) → IsFirstFault c.args.bytes.now (faults.Head c.longest_head.result)
+no_head : (c : goal.After-longest_head) → IsFirstPackFault c.args.bytes.now (faults.Head c.longest_head.result)
 no_head c =
     inl (
       c.longest_head.result,

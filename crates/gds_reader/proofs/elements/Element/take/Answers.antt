@@ -2,7 +2,7 @@ use Rattle.std.proofs.Common.{rules, ◌≡◌, ℕ, Option, Some, None, refl, s
 use Rattle.std.specs.Prelude.{IsSome}
 use Rattle.layout_model.specs.Names.{IsName}
 use Rattle.gds_record.specs.Numbers.{number_at}
-use Rattle.gds_reader.specs.Values.{name_in, IsReference, IsFactor, IsQuarterAngle, KeepsAs}
+use Rattle.gds_reader.specs.Values.{name_in, IsReference, IsGdsiiFactor, IsGdsiiAngle, KeepsAs}
 use Rattle.gds_reader.proofs.elements.Element.take.Goals as goal
 
 not_both : (r : Option ℕ) → r ≡ None → IsSome r → ⊥
@@ -18,15 +18,15 @@ returns-in-Sname-clause-element c = λ past wanted e keeps.
 pub returns-in-None-clause-element : goal.returns-in-None-clause-element
 returns-in-None-clause-element c = λ past wanted e keeps.
     let none : IsReference past → ⊥ = λ reference.
-    let factor : IsFactor (number_at 8 c.args.bytes.now c.args.current.first) =
+    let factor : IsGdsiiFactor (number_at 8 c.args.bytes.now c.args.current.first) =
     subst (λ k. (rule : ℕ) → KeepsAs k c.args.bytes.now wanted past c.args.current rule) c.in-Mag.is keeps 4 refl reference in
-    not_both c.factor_of.result c.in-None.is (c.factor_of.ensures.some.1 (subst IsFactor (sym c.int8.ensures) factor)) in
+    not_both c.factor_of.result c.in-None.is (c.factor_of.ensures.some.1 (subst IsGdsiiFactor (sym c.int8.ensures) factor)) in
     search rules
 
 pub returns-in-None-quarter_turns-clause-element : goal.returns-in-None-quarter_turns-clause-element
 returns-in-None-quarter_turns-clause-element c = λ past wanted e keeps.
     let none : IsReference past → ⊥ = λ reference.
-    let angle : IsQuarterAngle (number_at 8 c.args.bytes.now c.args.current.first) =
+    let angle : IsGdsiiAngle (number_at 8 c.args.bytes.now c.args.current.first) =
     subst (λ k. (rule : ℕ) → KeepsAs k c.args.bytes.now wanted past c.args.current rule) c.in-Angle.is keeps 5 refl reference in
-    not_both c.quarter_turns.result c.in-None-quarter_turns.is (c.quarter_turns.ensures.some.1 (subst IsQuarterAngle (sym c.int8-in-Angle.ensures) angle)) in
+    not_both c.quarter_turns.result c.in-None-quarter_turns.is (c.quarter_turns.ensures.some.1 (subst IsGdsiiAngle (sym c.int8-in-Angle.ensures) angle)) in
     search rules

@@ -5,7 +5,7 @@ use Rattle.gds_reader.specs.Meaning.{wanted_at, cells_at}
 use Rattle.gds_reader.specs.Names.{IsTwice}
 use Rattle.gds_reader.specs.Readers.{IsRefused, place_behind}
 use Rattle.gds_reader.specs.Refused.{IsRefusedBy}
-use Rattle.gds_reader.specs.Values.{Keeps, KeepsRules}
+use Rattle.gds_reader.specs.Values.{KeepsGdsiiRule, KeepsGdsiiRules}
 use Rattle.gds_reader.proofs.reading.Reader.take.Goals as goal
 use Rattle.gds_reader.proofs.TakeLemmas.{some_next, next_is, kind_cases, refused_xy}
 
@@ -36,7 +36,7 @@ pub returns-in-Err-built-clause-refused : goal.returns-in-Err-built-clause-refus
 returns-in-Err-built-clause-refused c = λ past wanted same reader.
     let drawn : c.wanted_shape-drawn.result ≡ wanted_at c.args.bytes.now wanted past c.args.current =
     c.wanted_shape-drawn.ensures.wanted c.args.bytes.now past wanted reader.element same in
-    for_fault_weaker (IsRefusedBy (Keeps c.args.bytes.now wanted past c.args.current) c.args.at)
+    for_fault_weaker (IsRefusedBy (KeepsGdsiiRule c.args.bytes.now wanted past c.args.current) c.args.at)
     (IsRefused c.args.bytes.now c.args.unit wanted past c.args.current c.args.at) c.in-Err-built.refusal
     (λ bad broken. inr (inl (record {
       some = some_next (place_behind past) c.args.self.now.place c.in-Some.place c.args.current reader.place (sym c.after.ensures ∙ c.in-Some.is);
@@ -50,7 +50,7 @@ pub returns-clause-reader : goal.returns-clause-reader
 returns-clause-reader c = λ past wanted same reader.
     let drawn : c.wanted_shape-drawn.result ≡ wanted_at c.args.bytes.now wanted past c.args.current =
     c.wanted_shape-drawn.ensures.wanted c.args.bytes.now past wanted reader.element same in
-    let rules : KeepsRules c.args.bytes.now wanted past c.args.current = elim (kind_cases c.args.current.kind Xy) [
+    let rules : KeepsGdsiiRules c.args.bytes.now wanted past c.args.current = elim (kind_cases c.args.current.kind Xy) [
       | inl xy ↦ c.in-Ok-built.ensures.kept past wanted reader.element drawn xy
       | inr other ↦ c.in-None.ensures.kept past wanted reader.element same other
     ] in

@@ -1,6 +1,6 @@
 use Rattle.std.proofs.Common.{◌≡◌, ◌≤◌, ◌-◌, ◌∙◌, refl, sym, ap, subst, arith}
 use Rattle.layout_model.specs.Images.{moved, enlarged}
-use Rattle.oas_shapes.specs.Plane.{IsNear}
+use Rattle.oas_shapes.specs.Plane.{IsNearInSteps}
 use Rattle.oas_shapes.specs.Ways.{way_of}
 use Rattle.oas_shapes.proofs.LatticeLemmas.{all_near, across_near, upward_near, both_near}
 use Rattle.oas_shapes.proofs.lattices.Lattice.is_near.Goals as goal
@@ -36,7 +36,7 @@ returns-in_default-moved c = (
       let upward = c.in-Some-last.ensures.some.0 in
       let corner : moved c.in-Some.across (way_of c.widened.result) ≡ moved (enlarged (l.nu - 1) (way_of l.u)) (enlarged (l.nv - 1) (way_of l.v)) =
       ap (λ q. moved c.in-Some.across q) (c.widened.ensures ∙ upward) ∙ ap (λ p. moved p (enlarged (l.nv - 1) (way_of l.v))) across in
-      absurd (c.in_default-moved.ensures.none (subst IsNear (sym corner) (both_near l.nu l.nv (way_of l.u) (way_of l.v) some more all))),
+      absurd (c.in_default-moved.ensures.none (subst IsNearInSteps (sym corner) (both_near l.nu l.nv (way_of l.u) (way_of l.v) some more all))),
 )
 
 pub returns : goal.returns
@@ -50,7 +50,7 @@ returns c = (
       let last =
       corner.0 ∙ ap (λ q. moved c.in-Some.across q) (c.widened.ensures ∙ upward.0)
       ∙ ap (λ p. moved p (enlarged (l.nv - 1) (way_of l.v))) across.0 in
-      all_near l.nu l.nv (way_of l.u) (way_of l.v) some (subst IsNear across.0 across.1) (subst IsNear upward.0 upward.1)
-      (subst IsNear last corner.1),
+      all_near l.nu l.nv (way_of l.u) (way_of l.v) some (subst IsNearInSteps across.0 across.1) (subst IsNearInSteps upward.0 upward.1)
+      (subst IsNearInSteps last corner.1),
   λ all. refl,
 )
