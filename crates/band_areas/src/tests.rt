@@ -1,5 +1,5 @@
-// A triangle that is grown by one and a half bands, asked for band by band: in bands that are computed together, from below
-// and in another order, it has the lists of bands that are computed alone.
+//! A triangle that is grown by one and a half bands, asked for band by band: in bands that are computed together, from below
+//! and in another order, it has the lists of bands that are computed alone.
 ghost use Rattle.std.specs.Prelude.{◌≡◌, ◌<◌, [], ◌∷◌, length};
 ghost use Rattle.band_areas.specs.Parts.{AreAreasOf};
 ghost use Rattle.layout_model.specs.Layouts.{IsShapeOnGrid, IsLayoutOnGrid};

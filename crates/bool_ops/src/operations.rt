@@ -1,3 +1,4 @@
+//! Set operations on two areas.
 ghost use Rattle.std.specs.Prelude.{IfOk, IfSome, IfNone, ◌≡◌, ◌<◌, ◌-◌, ◌^◌, pos, not};
 ghost use Rattle.std.specs.Ordering.{int_eq};
 ghost use Rattle.bool_ops.specs.Operations.{IsJoinedOf, IsInResult, IsWoundBy, takes};

@@ -1,3 +1,4 @@
+//! The pieces of a shape's outline, by a sweep.
 ghost use Rattle.std.specs.Prelude.{IfOk, ◌≡◌, ◌≢◌, [], ◌∷◌, All};
 ghost use Rattle.std.specs.Int.{int_min, int_max};
 ghost use Rattle.half_grid.specs.Outlines.{IsClosed, HasGridEdges};

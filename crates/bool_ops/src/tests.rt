@@ -1,5 +1,5 @@
-// Two triangles that cross under each operation, two squares, what is left of lists without others, and a figure eight, by
-// their trapezoids; and outlines whose pieces are known by one look, against a sweep.
+//! Two triangles that cross under each operation, two squares, what is left of lists without others, and a figure eight, by
+//! their trapezoids; and outlines whose pieces are known by one look, against a sweep.
 ghost use Rattle.std.specs.Prelude.{All};
 ghost use Rattle.half_grid.specs.Outlines.{IsClosed};
 ghost use Rattle.half_grid.specs.Reach.{IsPointWithinReach};

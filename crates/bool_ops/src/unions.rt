@@ -1,3 +1,4 @@
+//! What the edges of one operand wind around: all of it, or what is left without the other operand.
 ghost use Rattle.std.specs.Prelude.{IfOk, IfSome, IfNone, ◌≡◌, ◌<◌, ◌-◌, ◌^◌, ◌&&◌, pos, not};
 ghost use Rattle.std.specs.Ordering.{int_eq};
 ghost use Rattle.bool_ops.specs.Operations.{IsJoinedOf, IsLeftIn, IsWoundIn};

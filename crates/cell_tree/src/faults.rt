@@ -1,3 +1,4 @@
+//! Why a layout is no tree, told with the names of its cells.
 ghost use Rattle.std.specs.Prelude.{◌≡◌, ◌<◌, IfOk, All, map, length};
 ghost use Rattle.cell_tree.specs.Cells.{name_at};
 

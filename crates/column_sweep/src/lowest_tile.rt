@@ -1,3 +1,4 @@
+//! The lowest tile that a rule takes, looked for by one sweep from below.
 ghost use Rattle.std.specs.Prelude.{◌≡◌, ◌↔◌, IsTrue, IfOk, IfSome, IfNone};
 ghost use Rattle.half_grid.specs.Rows.{number_in_row, place};
 ghost use Rattle.half_grid.specs.Trapezoids.{IsShot, trapezoid};

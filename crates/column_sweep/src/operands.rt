@@ -1,3 +1,4 @@
+//! The edges of two lists of trapezoids, each as an operand.
 ghost use Rattle.std.specs.Prelude.{IfOk, OnOk, ◌≡◌, ◌++◌, All};
 ghost use Rattle.half_grid.specs.Trapezoids.{IsShot};
 ghost use Rattle.half_grid.specs.Windows.{RowRange};

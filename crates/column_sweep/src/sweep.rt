@@ -1,3 +1,4 @@
+//! The sweep that suits the edges: in columns, or without.
 ghost use Rattle.std.specs.Prelude.{IfOk, IfErr, IfSome, IfNone, ◌≡◌, ◌↔◌, ◌<◌, ◌-◌, ◌^◌, IsTrue};
 ghost use Rattle.scan_line.specs.Rules.{IsRule, IsWinding, Takes};
 ghost use Rattle.scan_line.specs.Runs.{IsBalanced};

@@ -1,7 +1,7 @@
-// A bar, swept by the nonzero rule; a bar without a slanted one, and a bar without a wedge that leans both ways, swept in
-// columns between cuts through every kind of corner and side; a bar with many lines between its sides; the edges of two
-// lists, and of sides that meet; and the lowest tile in which they differ, looked for in the same columns; and the laws,
-// called once.
+//! A bar, swept by the nonzero rule; a bar without a slanted one, and a bar without a wedge that leans both ways, swept in
+//! columns between cuts through every kind of corner and side; a bar with many lines between its sides; the edges of two
+//! lists, and of sides that meet; and the lowest tile in which they differ, looked for in the same columns; and the laws,
+//! called once.
 ghost use Rattle.std.specs.Prelude.{◌≡◌, ◌&&◌, ℤ, pos, not, IfOk};
 ghost use Rattle.std.specs.Ordering.{int_eq};
 ghost use Rattle.half_grid.specs.declared.border.Operand.{Operand};

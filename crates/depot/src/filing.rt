@@ -1,4 +1,4 @@
-// Files in memory: a list in which the first file of a name counts.
+//! Files in memory: a list in which the first file of a name counts.
 ghost use Rattle.std.specs.Prelude.{◌≡◌, ◌<◌, ◌≤◌, ◌^◌, [], ◌++◌, Some, None, IfOk, OnOk, OnErr, MatchOption, length, drop};
 ghost use Rattle.std.specs.FinMap.{insert};
 ghost use Rattle.depot.specs.Content.{appended};

@@ -1,4 +1,4 @@
-// A depot in memory that can be told to fail.
+//! A depot in memory that can be told to fail.
 ghost use Rattle.std.specs.Prelude.{◌≡◌, true, false, [], ◌++◌, None, Some, Ok, Err, IsTrue, IsSome, IsOkAnd, OnOk, OnErr, MatchResult, length, take, drop, min};
 ghost use Rattle.std.specs.Option.{option_copied};
 ghost use Rattle.std.specs.FinMap.{get};

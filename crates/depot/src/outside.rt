@@ -1,4 +1,4 @@
-// What a program uses of the outside.
+//! What a program uses of the outside.
 ghost use Rattle.std.specs.Prelude.{◌≡◌, ◌⊎◌, ℕ, ◌<◌, ◌≤◌, [], Bool, IsTrue, IsSome, IfOk, OnOk, OnErr, IsErrOf, length, take};
 ghost use Rattle.std.specs.Int.{int_gap, int_min};
 ghost use Rattle.depot.specs.Content.{Content, IsNotThere, with_left, StartsReading, TakesFirst, begun, IsNotBegun, with_written, with_said};

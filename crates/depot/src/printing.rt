@@ -1,4 +1,4 @@
-// What is said piece by piece, through a buffer.
+//! What is said piece by piece, through a buffer.
 ghost use Rattle.std.specs.Prelude.{◌≡◌, OnOk, [], ◌++◌};
 ghost use Rattle.depot.specs.Counting.{CountsWrites};
 ghost use Rattle.depot.specs.Doing.{Puts, Says};

@@ -1,4 +1,4 @@
-// What a depot in memory has: the files to be read, the files that are made, and what was said.
+//! What a depot in memory has: the files to be read, the files that are made, and what was said.
 ghost use Rattle.std.specs.Prelude.{◌≡◌, ◌≤◌, [], ◌++◌, None, IsSome, OnOk, OnErr, length, take, drop, min, is_some, unwrap_or};
 ghost use Rattle.std.specs.Option.{option_copied};
 ghost use Rattle.std.specs.FinMap.{get};

@@ -1,4 +1,4 @@
-// A depot in memory that never fails.
+//! A depot in memory that never fails.
 ghost use Rattle.std.specs.Prelude.{◌≡◌, ◌≤◌, true, [], ◌++◌, None, Some, Ok, Err, IsSome, IfOk, IsOkAnd, OnOk, OnErr, MatchResult, length, take, drop, min, unwrap_or};
 ghost use Rattle.std.specs.Option.{option_copied};
 ghost use Rattle.std.specs.FinMap.{get};

@@ -1,4 +1,4 @@
-// One happy path of each public call over each depot, and a refusal of each kind.
+//! One happy path of each public call over each depot, and a refusal of each kind.
 use crate::{
     Buffer, Depot, DepotBad, FaultCause, FileDepot, MemDepot, Phase, Progress, Refused, SureDepot,
     flush, make_file, nothing_fails, put_piece, read_all, say_whole, write_whole,

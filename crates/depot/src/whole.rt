@@ -1,4 +1,4 @@
-// Whole files over a depot that takes and gives bytes in pieces.
+//! Whole files over a depot that takes and gives bytes in pieces.
 ghost use Rattle.std.specs.Prelude.{◌≡◌, ◌⊎◌, ◌<◌, ◌≤◌, [], Some, IsTrue, IsSome, IfOk, OnOk, IsErr, IsErrOf, ◌++◌, length, vec_len};
 ghost use Rattle.depot.specs.Content.{held_as, IsNotThere, IsLongerThan, with_left, ChangesLeftOnly};
 ghost use Rattle.depot.specs.Counts.{Rose, NeverFall};

@@ -1,4 +1,4 @@
-// A triangle of two bands, against shots that cover it and shots that don't.
+//! A triangle of two bands, against shots that cover it and shots that don't.
 ghost use Rattle.std.specs.Prelude.{◌≡◌, [], ◌∷◌};
 ghost use Rattle.layout_model.specs.Layouts.{IsShapeOnGrid, IsLayoutOnGrid};
 

@@ -1,3 +1,4 @@
+//! Why the check of shot files ends early.
 use half_grid::Tile;
 use shot_reader::ShotBad;
 

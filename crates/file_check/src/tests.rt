@@ -1,4 +1,4 @@
-// A square in two outputs, against files that cover it and files that don't.
+//! A square in two outputs, against files that cover it and files that don't.
 ghost use Rattle.std.specs.Prelude.{◌≡◌, [], ◌∷◌};
 ghost use Rattle.layout_model.specs.Layouts.{IsShapeOnGrid, IsLayoutOnGrid};
 

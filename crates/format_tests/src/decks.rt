@@ -1,4 +1,4 @@
-// Decks of each form, and decks with one or two faults.
+//! Decks of each form, and decks with one or two faults.
 use deck_text::{Deck, DeckBad, Step, Text, read_deck};
 use geo_stream::Refusal;
 use half_grid::{Frame, Limits};

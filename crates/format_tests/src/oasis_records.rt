@@ -1,3 +1,4 @@
+//! OASIS records by their bytes, and bytes that are none.
 use oas_record::{PlainRectangle, RecordBad, plain_rectangle_at, record_at, record_laws};
 use std::alloc::{AllocError, Global};
 use std::process::Abort;

@@ -1,4 +1,4 @@
-// The shots of packed files by their bytes, both ways, and the first fault of bytes that are no packed file.
+//! The shots of packed files by their bytes, both ways, and the first fault of bytes that are no packed file.
 use depot::MemDepot;
 use geo_stream::Refusal;
 use half_grid::{Line, Trap};

@@ -1,3 +1,4 @@
+//! The laws of cutting trapezoids into shots.
 ghost use Rattle.fracture.specs.Laws.{SameTiles, AreShots, FitTheLimits, NoneWithin, NoneBetween};
 
 /// What holds of the shots of every list of trapezoids: each tile is in as many of the shots as of the trapezoids; each

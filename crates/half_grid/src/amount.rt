@@ -1,3 +1,4 @@
+//! How many tiles a trapezoid has.
 ghost use Rattle.std.specs.Prelude.{◌≡◌, pos, ◌-ℤ◌, ◌+ℤ◌, ◌*ℤ◌, ◌≤◌, ◌^◌};
 ghost use Rattle.half_grid.specs.Trapezoids.{IsInTrapezoid, IsShot, bottom_of, top_of};
 ghost use Rattle.half_grid.specs.Sizes.{IsNumberIn};

@@ -1,3 +1,4 @@
+//! Edges that aren't horizontal, each with the operand that it belongs to.
 ghost use Rattle.std.specs.Prelude.{◌≡◌, ◌↔◌, IsTrue, SomeIff};
 ghost use Rattle.half_grid.specs.Lines.{x_on};
 ghost use Rattle.half_grid.specs.Reach.{IsWithinReach};

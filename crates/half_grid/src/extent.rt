@@ -1,3 +1,4 @@
+//! Ranges of rows and of columns.
 ghost use Rattle.std.specs.Prelude.{◌≡◌, SomeIff};
 
 use std::marker::Model;

@@ -1,3 +1,4 @@
+//! The laws of the half grid.
 ghost use Rattle.half_grid.specs.RowLaws.{RightByPlace, LeftByPlace, StripsNameTile, NumberNamesTile, PlaceNamesLine, LegalPlaces};
 ghost use Rattle.half_grid.specs.LineLaws.{PlacesDiffer, OrderChanges, NumbersOfRow, LineWithinReach};
 ghost use Rattle.half_grid.specs.EdgeLaws.{WindingsAdd, OneInside, NoneOutside, WindingIsCount, OperandsApart};

@@ -1,3 +1,4 @@
+//! Where two lines meet.
 ghost use Rattle.std.specs.Prelude.{IfSome, IfNone};
 ghost use Rattle.half_grid.specs.Lines.{first_strip};
 ghost use Rattle.half_grid.specs.Meetings.{MeetOnlyAt, AreParallel};

@@ -1,3 +1,4 @@
+//! Which tiles are near each other.
 ghost use Rattle.std.specs.Prelude.{◌↔◌, IsTrue};
 ghost use Rattle.half_grid.specs.Nearness.{DifferAtMost, IsNear};
 ghost use Rattle.half_grid.specs.Reach.{IsTileWithinReach};

@@ -1,3 +1,4 @@
+//! Closed point lists: the line of an edge, and the winding at a tile.
 ghost use Rattle.std.specs.Prelude.{◌≡◌, ◌≢◌, pos, ◌≤ℤ◌, ◌<ℤ◌, ◌⊎◌, IfSome, IfNone};
 ghost use Rattle.half_grid.specs.declared.plane.Line.{Line};
 ghost use Rattle.half_grid.specs.Lines.{Passes, line_of, share_rising, share_falling};

@@ -1,3 +1,4 @@
+//! The points, tiles and lines of the plane.
 ghost use Rattle.std.specs.Prelude.{◌≡◌, ◌+ℤ◌, ◌-ℤ◌};
 
 use crate::sums::{difference, sum};

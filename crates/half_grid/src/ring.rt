@@ -1,3 +1,4 @@
+//! Quadrilaterals by their corners.
 ghost use Rattle.std.specs.Prelude.{◌≡◌, pos};
 ghost use Rattle.half_grid.specs.Trapezoids.{IsInTrapezoid};
 ghost use Rattle.half_grid.specs.Winding.{winding};

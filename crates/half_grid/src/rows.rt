@@ -1,3 +1,4 @@
+//! Where tiles and lines lie, row by row.
 ghost use Rattle.std.specs.Prelude.{◌≡◌, int_le, pos, ◌-ℤ◌, ◌+ℤ◌, ◌≤ℤ◌, ◌<ℤ◌};
 ghost use Rattle.half_grid.specs.Halves.{half, twice};
 ghost use Rattle.half_grid.specs.Tiles.{strips_of, sum_strip, difference_strip};

@@ -1,3 +1,4 @@
+//! Legal trapezoids within reach.
 ghost use Rattle.std.specs.Prelude.{◌≡◌, pos, ◌-ℤ◌, ◌+ℤ◌, ◌≤ℤ◌, ◌<ℤ◌, ◌↔◌, IsTrue, SomeIff};
 ghost use Rattle.half_grid.specs.Lines.{x_on};
 ghost use Rattle.half_grid.specs.Reach.{IsWithinReach};

@@ -1,3 +1,4 @@
+//! Sums, differences and halves of coordinates.
 ghost use Rattle.std.specs.Prelude.{◌≡◌, ◌+ℤ◌, ◌-ℤ◌};
 ghost use Rattle.half_grid.specs.Halves.{half, is_even};
 

@@ -1,3 +1,4 @@
+//! Each call at tiles, lines and trapezoids.
 ghost use Rattle.std.specs.Prelude.{◌≡◌};
 
 use crate::{

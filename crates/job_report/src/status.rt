@@ -1,3 +1,4 @@
+//! The ways in which a command ends, and the number of each.
 use crate::faults::CheckFault;
 use job_input::{DeckFault, LayoutFault};
 

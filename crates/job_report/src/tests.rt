@@ -1,4 +1,4 @@
-// Lines and a report, by their texts.
+//! Lines and a report, by their texts.
 use crate::{deck_line, gds_line, oas_line, say_pieces, say_report, tree_line};
 use cell_tree::TreeBad;
 use deck_text::{DeckBad, Output, Text};

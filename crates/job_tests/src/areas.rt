@@ -1,4 +1,4 @@
-// The areas of a triangle and of what a deck makes of it and of two layers, worked out by hand.
+//! The areas of a triangle and of what a deck makes of it and of two layers, worked out by hand.
 ghost use Rattle.std.specs.Prelude.{◌≡◌, [], ◌∷◌};
 ghost use Rattle.layout_model.specs.Layouts.{AreOffsets, IsShapeOnGrid, IsLayoutOnGrid};
 

@@ -1,5 +1,5 @@
-// A triangle around 0, whose slanted side passes through a corner of four windows, mirrored and taken away from itself,
-// and squares far apart, with windows worked out by hand.
+//! A triangle around 0, whose slanted side passes through a corner of four windows, mirrored and taken away from itself,
+//! and squares far apart, with windows worked out by hand.
 ghost use Rattle.std.specs.Prelude.{◌≡◌, ◌≤◌, ◌^◌, [], ◌∷◌, All, length};
 ghost use Rattle.half_grid.specs.Outlines.{IsClosed};
 ghost use Rattle.half_grid.specs.Reach.{IsPointWithinReach};

@@ -1,4 +1,4 @@
-// The file for 1, by its bytes at places that follow from the format's description.
+//! The file for 1, by its bytes at places that follow from the format's description.
 
 use crate::generate;
 use depot::{DepotBad, MemDepot};

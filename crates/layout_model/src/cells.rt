@@ -1,3 +1,4 @@
+//! Cells, their placements, and the counts of a layout.
 use crate::names::Name;
 use crate::offsets::Offsets;
 use crate::orient::Orient;

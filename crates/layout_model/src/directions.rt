@@ -1,3 +1,4 @@
+//! The directions of the edges of paths.
 ghost use Rattle.std.specs.Prelude.{◌≡◌};
 ghost use Rattle.layout_model.specs.Paths.{direction_of, are_opposite, are_one, later};
 ghost use Rattle.layout_model.specs.Walks.{is_direction, is_turn};

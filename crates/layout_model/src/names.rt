@@ -1,3 +1,4 @@
+//! Names of cells.
 ghost use Rattle.std.specs.Prelude.{◌≡◌, ◌≤◌, ◌↔◌, length, slice_index, EachIndex, IsTrue, IfOk, IsOk, Err};
 ghost use Rattle.layout_model.specs.Names.{IsName, IsNameByte};
 ghost use Rattle.layout_model.specs.declared.names.NameBad.TheVariants.{Form, NoMemory as Wanting};

@@ -1,3 +1,4 @@
+//! The places at which a shape or a cell stands, as a repetition gives them.
 ghost use Rattle.std.specs.Prelude.{◌≢◌, [], ◌∷◌, ℕ, ◌≤◌, ◌≤ℤ◌, ◌≡◌, ◌<◌, ◌*◌, pos, ◌*ℤ◌, Some, length, slice_get, IsTrue, IfOk, IsOk, MatchOption};
 ghost use Rattle.half_grid.specs.Reach.{IsWithinReach};
 ghost use Rattle.layout_model.specs.Grids.{IsGrid, grid_place, grid_places, nth_place};

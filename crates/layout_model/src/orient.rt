@@ -1,3 +1,4 @@
+//! How a placed cell is enlarged, mirrored and turned.
 ghost use Rattle.std.specs.Prelude.{◌≡◌, ◌^◌, ◌+ℤ◌};
 ghost use Rattle.layout_model.specs.Layouts.{IsWithin};
 ghost use Rattle.layout_model.specs.Products.{IsProduct};

@@ -1,3 +1,4 @@
+//! Layer and datatype of a shape.
 ghost use Rattle.layout_model.specs.Pairs.{by_layer};
 ghost use Rattle.layout_model.specs.declared.pair.Pair.{Pair as APair};
 ghost use Rattle.std.specs.Prelude.{◌≡◌};

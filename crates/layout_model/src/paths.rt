@@ -1,3 +1,4 @@
+//! The rectangles that a path is drawn as.
 ghost use Rattle.std.specs.Prelude.{◌≡◌, ◌≢◌, ◌^◌, ◌↔◌, ◌≤ℤ◌, ◌⊎◌, ℕ, pos, [], All, Some, IfSome, IfNone, IfOk, IsOk, IsOkAnd, Err};
 ghost use Rattle.layout_model.specs.Paths.{HasNoLength, HasLength, HasNoDiagonal, HasNoTurnBack, IsFirstDiagonal, IsFirstTurnBack, HasEmptyEnd, IsDrawable, stretches, rectangles, drawn_path};
 ghost use Rattle.layout_model.specs.Layouts.{IsWithin};

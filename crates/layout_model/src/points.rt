@@ -1,3 +1,4 @@
+//! Lists of points, short ones without memory of their own.
 ghost use Rattle.std.specs.Prelude.{◌≡◌, ◌≢◌, ◌<◌, ◌≤◌, ◌+ℤ◌, [], length, map, All, IfOk, IsOk, IfSome, IsSome, IsTrue};
 ghost use Rattle.half_grid.specs.Reach.{IsPointWithinReach, IsWithinReach};
 ghost use Rattle.layout_model.specs.Hulls.{IsLeastBoxOf};

@@ -1,3 +1,4 @@
+//! Multiples of coordinates, and their sums, without overflow.
 ghost use Rattle.std.specs.Prelude.{◌≡◌, ◌^◌, ◌<◌, pos, ◌+ℤ◌, ◌*ℤ◌};
 ghost use Rattle.half_grid.specs.Reach.{IsWithinReach};
 ghost use Rattle.layout_model.specs.Products.{IsProduct};

@@ -1,3 +1,4 @@
+//! Shapes: closed outlines on a layer.
 ghost use Rattle.std.specs.Prelude.{◌≡◌, ◌≤◌, ◌↔◌, ℕ, All, length, false, IsTrue, IsOk, IfOk, IfSome, IfNone, Err};
 ghost use Rattle.half_grid.specs.Outlines.{IsClosed, IsOnGrid, HasGridEdges};
 ghost use Rattle.half_grid.specs.Reach.{IsPointWithinReach};

@@ -1,3 +1,4 @@
+//! Tops and bottoms of trapezoids, in order, so that those that touch are found by a search.
 ghost use Rattle.std.specs.Prelude.{◌≡◌, ◌↔◌, ◌<◌, ◌+◌, ℕ, Some, IsTrue, true, false, IfOk, IfSome, map, length, get_or, slice_get};
 ghost use Rattle.lone_traps.specs.Levels.{bottom_level, top_level, IsNoLater, AreInOrder, IsBefore, EndsBefore, IsRank};
 ghost use Rattle.lone_traps.specs.Levels.{AreOverlapping, AreMarkedTo, AreMarksOf};

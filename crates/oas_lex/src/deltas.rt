@@ -1,3 +1,4 @@
+//! The deltas of OASIS: 2-deltas, 3-deltas and g-deltas.
 ghost use Rattle.std.specs.Prelude.{◌≡◌, ◌<◌, ◌≤◌, ◌^◌, ◌↔◌, ℕ, ℤ, length};
 ghost use Rattle.half_grid.specs.declared.plane.Point.{Point as APoint};
 ghost use Rattle.oas_lex.specs.Deltas.{towards, sideways, HasDelta2, HasDelta3, HasDeltaG, DeltaGFails};

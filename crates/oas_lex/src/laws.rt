@@ -1,3 +1,4 @@
+//! Laws of spelled numbers and of the text of a shot file.
 ghost use Rattle.oas_lex.specs.ShotLaws.{RecordNamesShot, TextNamesShots};
 ghost use Rattle.oas_lex.specs.SpellingLaws.{UnsignedIsShortest, SignedSpells, SignedIsShortest, NoneBegins, UnsignedReadsBack, SignedReadsBack, OneUnsigned, OneSigned};
 

@@ -1,3 +1,4 @@
+//! The signed and unsigned integers of OASIS.
 ghost use Rattle.std.specs.Prelude.{◌≡◌, ◌≢◌, ◌≤◌, ◌<◌, ◌^◌, ℕ, ℤ, ◌↔◌, length, IfOk, IfSome};
 ghost use Rattle.oas_lex.specs.Numbers.{HasUnsigned, HasSigned, EndsFirst, IsWide, signed_value};
 

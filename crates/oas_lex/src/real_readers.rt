@@ -1,3 +1,4 @@
+//! Reading the reals of OASIS, kind by kind.
 ghost use Rattle.std.specs.Prelude.{◌≡◌, ◌<◌, ◌≤◌, ◌↔◌, ℕ, Some, length, slice_index, IfOk, IfErr};
 ghost use Rattle.oas_lex.specs.declared.reals.Real.{Real as AReal};
 ghost use Rattle.oas_lex.specs.Reals.{TwoNumbers, form_of, HasOneNumber, HasBits, HasRealParts, RealPartsFail, HasReal, RealFails};

@@ -1,3 +1,4 @@
+//! The reals of OASIS, and the whole numbers that they are.
 ghost use Rattle.std.specs.Prelude.{◌≡◌, ◌+◌, ◌<◌, ◌≤◌, ◌^◌, ◌↔◌, ℕ, ℤ};
 ghost use Rattle.oas_lex.specs.Reals.{form_of, with_sign, sign_of, IsQuotient, IsIeee, IsMagnitude, IsWholeOasisReal};
 

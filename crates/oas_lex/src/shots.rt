@@ -1,3 +1,4 @@
+//! The text of a shot file: its head, its records and its end.
 ghost use Rattle.std.specs.Prelude.{◌≡◌, ◌-ℤ◌, ◌^◌, ◌<◌, unsigned_abs};
 ghost use Rattle.half_grid.specs.Trapezoids.{box_width};
 ghost use Rattle.oas_lex.specs.ShotText.{AreNarrow, head, end, fields_of, spelling_of, left_delta, right_delta};

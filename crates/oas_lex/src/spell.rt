@@ -1,3 +1,4 @@
+//! A small buffer in which numbers are spelled.
 ghost use Rattle.std.specs.Prelude.{◌≡◌, ◌+◌, ◌^◌, ◌<◌, ◌≤◌, ℕ, List, [], ◌∷◌, ◌++◌, length, take, unsigned_abs};
 ghost use Rattle.oas_lex.specs.Spelling.{unsigned_text, signed_text, signed_code};
 

@@ -1,3 +1,4 @@
+//! The strings of OASIS.
 ghost use Rattle.std.specs.Prelude.{◌≡◌, ◌+◌, ◌≤◌, ◌↔◌, ℕ, length, IfOk, IfErr};
 ghost use Rattle.oas_lex.specs.Strings.{HasBytes, HasText, BytesFail, TextFails};
 

@@ -1,3 +1,4 @@
+//! Numbers, deltas, reals and shots by their bytes, worked out by hand.
 use crate::{
     LexBad, ROOM, Real, ShotFields, Spell, delta_g, delta2, delta3, end_of_bytes, end_text,
     head_text, put_signed, put_unsigned, real, real_whole, shot_laws, signed, spell_fields,

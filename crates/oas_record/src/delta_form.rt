@@ -1,3 +1,4 @@
+//! How the deltas of a point list are spelled.
 ghost use Rattle.std.specs.Prelude.{◌≡◌};
 ghost use Rattle.oas_record.specs.Lists.{delta_form, turned};
 

@@ -1,3 +1,4 @@
+//! Why no record is at an offset.
 ghost use Rattle.std.specs.Prelude.{◌≡◌};
 ghost use Rattle.oas_record.specs.Faults.{bad_of};
 

@@ -1,3 +1,4 @@
+//! Laws of records and their bytes.
 ghost use Rattle.oas_record.specs.Laws.{OneRecord, RecordOrFault, OneFault, NoneBegins};
 
 /// What the bytes of a record keep: they hold at most one record at a place, which ends at one place, or no record for one

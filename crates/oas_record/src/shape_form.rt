@@ -1,3 +1,4 @@
+//! The kinds of shapes that records have.
 /// Which shape a record is, by its id.
 #[derive(Clone, Copy, Debug, PartialEq, Eq)]
 pub(crate) enum ShapeForm {

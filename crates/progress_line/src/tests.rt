@@ -1,4 +1,4 @@
-// Lines that were worked out by hand, the pace, and a depot in memory that is shown.
+//! Lines that were worked out by hand, the pace, and a depot in memory that is shown.
 use crate::file::FileLine;
 use crate::ledger::Ledger;
 use crate::pace::Pace;

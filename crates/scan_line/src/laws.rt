@@ -1,3 +1,4 @@
+//! Laws of the windings of edges.
 ghost use Rattle.scan_line.specs.ClippedLaws.{WindsInWindow, StaysBalanced};
 ghost use Rattle.scan_line.specs.OutlineLaws.{WindsAsOutline, WindsNotForOther, OutlineIsBalanced};
 

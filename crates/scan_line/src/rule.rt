@@ -1,3 +1,4 @@
+//! Rules: which tiles are taken, by their two windings.
 ghost use Rattle.std.specs.Prelude.{◌≡◌, ◌↔◌, IsTrue};
 ghost use Rattle.scan_line.specs.Rules.{IsRule, IsWinding, Takes};
 

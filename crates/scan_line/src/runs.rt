@@ -1,3 +1,4 @@
+//! Runs of tiles in a row, and slabs of rows.
 use half_grid::Line;
 
 /// A maximal run of tiles in a row of a slab: those right of its left line and left of its right one.

@@ -1,3 +1,4 @@
+//! A sweep of edges from stop to stop, upward.
 ghost use Rattle.std.specs.Prelude.{◌≡◌, ◌<ℤ◌, [], IfOk, IfSome, IfNone, IsSome, IsPermutation};
 ghost use Rattle.half_grid.specs.Windows.{row_range};
 ghost use Rattle.scan_line.specs.Rules.{IsRule};

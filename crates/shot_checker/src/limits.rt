@@ -1,3 +1,4 @@
+//! The limits of a shot's height and width.
 ghost use Rattle.std.specs.Prelude.{IfSome, IfNone, All};
 ghost use Rattle.shot_checker.specs.Verdicts.{Fits, IsFirstTooLarge};
 

@@ -1,4 +1,4 @@
-// A square of 20 by 20 half units, two triangles and nothing as areas, against shots that cover them and shots that don't.
+//! A square of 20 by 20 half units, two triangles and nothing as areas, against shots that cover them and shots that don't.
 
 use crate::{Verdict, check, too_large};
 use half_grid::{Limits, Line, Side, Tile, Trap, Window};

@@ -1,3 +1,4 @@
+//! The verdict on a list of shots.
 ghost use Rattle.std.specs.Prelude.{◌≡◌, ◌↔◌, ℕ, ℤ, pos, ◌≤ℤ◌, ◌<ℤ◌, ◌^◌, not, IfOk, IfSome, IfNone};
 ghost use Rattle.std.specs.Ordering.{int_eq};
 ghost use Rattle.half_grid.specs.declared.plane.Tile.{Tile};

@@ -1,4 +1,4 @@
-// Listings by their text, and what is said of one where a call fails.
+//! Listings by their text, and what is said of one where a call fails.
 use crate::{MOST_SHOTS, say_listing};
 use depot::MemDepot;
 use half_grid::{Line, Trap};

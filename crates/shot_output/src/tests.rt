@@ -1,4 +1,4 @@
-// A triangle of two bands, written twice, and what a failing call leaves.
+//! A triangle of two bands, written twice, and what a failing call leaves.
 ghost use Rattle.std.specs.Prelude.{◌≡◌, [], ◌∷◌};
 ghost use Rattle.layout_model.specs.Layouts.{IsShapeOnGrid, IsLayoutOnGrid};
 

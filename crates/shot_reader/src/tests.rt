@@ -1,4 +1,4 @@
-// The shots of small files by their bytes, and the first fault of bytes that are no shot file.
+//! The shots of small files by their bytes, and the first fault of bytes that are no shot file.
 use crate::{ShotBad, ShotFile, read_shots, reading_laws};
 use geo_stream::Refusal;
 use half_grid::{Line, Trap};

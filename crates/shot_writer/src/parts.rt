@@ -1,3 +1,4 @@
+//! What a shot file is made of: its head, its records, and the sums of what was written.
 ghost use Rattle.std.specs.Prelude.{◌≡◌, ◌^◌, ◌<◌, ◌≤◌};
 ghost use Rattle.oas_lex.specs.ShotText.{spelling_of};
 ghost use Rattle.shot_writer.specs.Writing.{triangles_in};

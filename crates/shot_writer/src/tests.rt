@@ -1,4 +1,4 @@
-// The shot file of one square by its bytes, and what a fault at each call leaves.
+//! The shot file of one square by its bytes, and what a fault at each call leaves.
 ghost use Rattle.std.specs.Prelude.{◌^◌, ◌<◌};
 ghost use Rattle.shot_writer.specs.Writing.{triangles_of};
 

@@ -1,3 +1,4 @@
+//! Writing a shot file, shot by shot.
 ghost use Rattle.std.specs.Prelude.{◌≡◌, ◌+◌, ◌^◌, ◌<◌, ◌≤◌, List, [], None, Some, Err, IsTrue, IsSome, IfOk, OnOk, OnErr, length};
 ghost use Rattle.std.specs.Result.{result_err};
 ghost use Rattle.depot.specs.Counting.{CountsWrites};

@@ -1,3 +1,4 @@
+//! Trapezoids that may still grow upward.
 use half_grid::{Line, Trap};
 use std::collections::VecDeque;
 

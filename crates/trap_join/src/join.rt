@@ -1,3 +1,4 @@
+//! Maximal trapezoids, one by one, out of a sweep's slabs.
 ghost use Rattle.std.specs.Prelude.{◌≡◌, ◌<◌, ◌+◌, ◌≤◌, List, [], ◌∷◌, ◌++◌, map, length, All, IsTrue, IsOk, IsErr, IfOk, OnOk, OnErr, IfSome, IfNone, MatchOption, true, false};
 ghost use Rattle.std.specs.Option.{option_to_list};
 ghost use Rattle.half_grid.specs.Trapezoids.{Trapezoid, CoversExactly};

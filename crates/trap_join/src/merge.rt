@@ -1,3 +1,4 @@
+//! One step upward: which trapezoids go on, end and begin at a stop.
 ghost use Rattle.std.specs.Prelude.{[], ◌≡◌, ◌<ℤ◌, ◌-ℤ◌, pos, map, ◌++◌, ◌∷◌, All, OnOk, OnErr, length, ◌<◌, ◌^◌};
 ghost use Rattle.half_grid.specs.Rows.{place};
 ghost use Rattle.half_grid.specs.Sides.{IsSide};
