@@ -8,7 +8,7 @@ use Rattle.mdp_job.specs.Runs.{IsEndedSo}
 use Rattle.mdp_job.specs.ShotFiles.{ShotData}
 use Rattle.mdp_job.specs.Splitting.{CanBeSplit, AreManyStripes, AreAllMade, IsSplitWhole, IsSplitCutShort}
 use Rattle.job_report.specs.declared.faults.CheckFault.{CheckFault}
-use Rattle.job_report.specs.declared.faults.CheckFault.TheVariants.{Long, Bad, Head, Miscovered, TooLarge, Pack, Wide, Stripes}
+use Rattle.mdp_job.specs.FileFaults.{for_fault, never}
 use Rattle.job_report.specs.declared.status.Status.{Status}
 use Rattle.job_report.specs.declared.status.Status.TheVariants as answers
 
@@ -19,14 +19,8 @@ IsSpan size shots (Some span) = AreStripesOf size shots span.0 span.1 × (span.1
 
 -- why shots can't be split
 abbrev pub IsSpanFault : ℤ → List Trapezoid → CheckFault → Type 0
-IsSpanFault size shots Long = ⊥
-IsSpanFault size shots (Bad bad) = ⊥
-IsSpanFault size shots Head = ⊥
-IsSpanFault size shots (Miscovered t count wanted) = ⊥
-IsSpanFault size shots (TooLarge shot) = ⊥
-IsSpanFault size shots (Pack bad) = ⊥
-IsSpanFault size shots (Wide k) = IsFirstTooWide shots k
-IsSpanFault size shots (Stripes value) = All IsFieldShot shots × AreManyStripes size shots value
+IsSpanFault size shots fault =
+    for_fault ⊥ never never (IsFirstTooWide shots) (λ value. All IsFieldShot shots × AreManyStripes size shots value) fault
 
 -- the making of the files was cut short, or all are made and a prefix of their lines was said
 abbrev pub IsHalfSplit : Content → Content → ℤ → List ℕ → ShotData → Type 0

@@ -1,6 +1,7 @@
 -- ---- what is promised, in reading order
 pub mod Clauses
 pub mod Parts
+pub mod FileFaults
 pub mod Runs
 pub mod Headline
 pub mod Outputs

@@ -30,6 +30,7 @@ use Rattle.job_report.specs.declared.status.Status.{Status}
 use Rattle.job_report.specs.declared.status.Status.TheVariants as answers
 use Rattle.job_report.specs.declared.faults.CheckFault.{CheckFault}
 use Rattle.job_report.specs.declared.faults.CheckFault.TheVariants as check_faults
+use Rattle.mdp_job.specs.FileFaults.{for_fault, may, never}
 use Rattle.job_words.specs.Words.{Command, Fracture, Check, Shots, Pack, Unpack, Split, Density, Generate}
 
 -- the answer to a file that wasn't read
@@ -180,36 +181,15 @@ refuses_output place (check_faults.Stripes value) = ⊥
 
 -- those of `shots` and of `pack`
 abbrev pub refuses_shots : CheckFault → Type 0
-refuses_shots check_faults.Long = ⊤
-refuses_shots (check_faults.Bad bad) = ⊤
-refuses_shots check_faults.Head = ⊥
-refuses_shots (check_faults.Miscovered t count wanted) = ⊥
-refuses_shots (check_faults.TooLarge shot) = ⊥
-refuses_shots (check_faults.Pack bad) = ⊥
-refuses_shots (check_faults.Wide k) = ⊥
-refuses_shots (check_faults.Stripes value) = ⊥
+refuses_shots fault = for_fault ⊤ may never never never fault
 
 -- those of `unpack`
 abbrev pub refuses_packed : CheckFault → Type 0
-refuses_packed check_faults.Long = ⊤
-refuses_packed (check_faults.Bad bad) = ⊥
-refuses_packed check_faults.Head = ⊥
-refuses_packed (check_faults.Miscovered t count wanted) = ⊥
-refuses_packed (check_faults.TooLarge shot) = ⊥
-refuses_packed (check_faults.Pack bad) = ⊤
-refuses_packed (check_faults.Wide k) = ⊥
-refuses_packed (check_faults.Stripes value) = ⊥
+refuses_packed fault = for_fault ⊤ never may never never fault
 
 -- those of `split`
 abbrev pub refuses_fields : CheckFault → Type 0
-refuses_fields check_faults.Long = ⊤
-refuses_fields (check_faults.Bad bad) = ⊤
-refuses_fields check_faults.Head = ⊥
-refuses_fields (check_faults.Miscovered t count wanted) = ⊥
-refuses_fields (check_faults.TooLarge shot) = ⊥
-refuses_fields (check_faults.Pack bad) = ⊥
-refuses_fields (check_faults.Wide k) = ⊤
-refuses_fields (check_faults.Stripes value) = ⊤
+refuses_fields fault = for_fault ⊤ may never may may fault
 
 -- the answer may come for the command
 abbrev pub IsOf : Command → Status → Type 0

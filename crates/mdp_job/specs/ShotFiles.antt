@@ -13,7 +13,7 @@ use Rattle.shot_repeat.specs.Refusals.{IsFirstPackFault}
 use Rattle.shot_repeat.specs.declared.refusing.PackBad.{PackBad}
 pub use Rattle.file_check.specs.Files.{ShotData}
 use Rattle.job_report.specs.declared.faults.CheckFault.{CheckFault}
-use Rattle.job_report.specs.declared.faults.CheckFault.TheVariants.{Long, Bad, Head, Miscovered, TooLarge, Pack, Wide, Stripes}
+use Rattle.mdp_job.specs.FileFaults.{for_fault, never}
 
 -- ---- what a name holds
 
@@ -49,25 +49,11 @@ pub record HoldsPackFault (c : Content) (file : List ℕ) (bad : PackBad) : Type
 
 -- as a shot file
 abbrev pub IsShotsFault : Content → List ℕ → CheckFault → Type 0
-IsShotsFault c file Long = IsLongerThan 268435456 c file
-IsShotsFault c file (Bad bad) = HoldsFault c file bad
-IsShotsFault c file Head = ⊥
-IsShotsFault c file (Miscovered t count wanted) = ⊥
-IsShotsFault c file (TooLarge shot) = ⊥
-IsShotsFault c file (Pack bad) = ⊥
-IsShotsFault c file (Wide k) = ⊥
-IsShotsFault c file (Stripes value) = ⊥
+IsShotsFault c file fault = for_fault (IsLongerThan 268435456 c file) (HoldsFault c file) never never never fault
 
 -- as a packed one
 abbrev pub IsPackedFault : Content → List ℕ → CheckFault → Type 0
-IsPackedFault c file Long = IsLongerThan 268435456 c file
-IsPackedFault c file (Bad bad) = ⊥
-IsPackedFault c file Head = ⊥
-IsPackedFault c file (Miscovered t count wanted) = ⊥
-IsPackedFault c file (TooLarge shot) = ⊥
-IsPackedFault c file (Pack bad) = HoldsPackFault c file bad
-IsPackedFault c file (Wide k) = ⊥
-IsPackedFault c file (Stripes value) = ⊥
+IsPackedFault c file fault = for_fault (IsLongerThan 268435456 c file) never (HoldsPackFault c file) never never fault
 
 -- ---- what is made of a file, and said
 

@@ -12,7 +12,7 @@ use Rattle.field_output.specs.Stripes.{AreAllStripeLists, AreStripesPartWritten,
 use Rattle.field_output.specs.declared.sums.StripeSums.{StripeSums}
 use Rattle.mdp_job.specs.ShotFiles.{ShotData, HoldsShots, HoldsFault, pair_or}
 use Rattle.job_report.specs.declared.faults.CheckFault.{CheckFault}
-use Rattle.job_report.specs.declared.faults.CheckFault.TheVariants.{Long, Bad, Head as OtherHead, Miscovered, TooLarge, Pack, Wide, Stripes}
+use Rattle.mdp_job.specs.FileFaults.{for_fault, never}
 
 -- ---- which files can be split
 
@@ -49,14 +49,8 @@ pub record HoldsManyStripes (size : ℤ) (c : Content) (file : List ℕ) (value 
 
 -- why a file isn't split
 abbrev pub IsFieldsFault : ℤ → Content → List ℕ → CheckFault → Type 0
-IsFieldsFault size c file Long = IsLongerThan 268435456 c file
-IsFieldsFault size c file (Bad bad) = HoldsFault c file bad
-IsFieldsFault size c file OtherHead = ⊥
-IsFieldsFault size c file (Miscovered t count wanted) = ⊥
-IsFieldsFault size c file (TooLarge shot) = ⊥
-IsFieldsFault size c file (Pack bad) = ⊥
-IsFieldsFault size c file (Wide k) = HoldsWide c file k
-IsFieldsFault size c file (Stripes value) = HoldsManyStripes size c file value
+IsFieldsFault size c file fault =
+    for_fault (IsLongerThan 268435456 c file) (HoldsFault c file) never (HoldsWide c file) (HoldsManyStripes size c file) fault
 
 -- ---- what is made of a file
 
