@@ -1,5 +1,6 @@
 -- ---- what is promised, in reading order
 pub mod Trapezoids
+pub mod Sizes
 pub mod Reach
 pub mod Lines
 pub mod JoinedLists
@@ -11,7 +12,6 @@ pub mod Winding
 pub mod Windows
 pub mod Outlines
 pub mod Quads
-pub mod Sizes
 -- ---- what is kept inside
 pub mod Sides
 pub mod RowLaws
