@@ -1,6 +1,5 @@
 -- ---- what is promised, in reading order
 pub mod Trapezoids
-pub mod Sizes
 pub mod Reach
 pub mod Lines
 pub mod JoinedLists
@@ -12,6 +11,7 @@ pub mod Winding
 pub mod Windows
 pub mod Outlines
 pub mod Quads
+pub mod Sizes
 -- ---- what is kept inside
 pub mod Sides
 pub mod RowLaws

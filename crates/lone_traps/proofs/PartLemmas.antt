@@ -1,6 +1,7 @@
 -- Lone trapezoids shrink by themselves, and the rest by itself.
-use Rattle.std.proofs.Common.{◌≡◌, ◌↔◌, ℤ, pos, ◌≤ℤ◌, List, [], ◌∷◌, ◌++◌, Contains, sym, subst, ◌⊎◌, inl, inr, arith}
+use Rattle.std.proofs.Common.{◌≡◌, ◌≤◌, ◌↔◌, ℤ, pos, ◌≤ℤ◌, length, List, [], ◌∷◌, ◌++◌, Contains, sym, subst, ◌⊎◌, inl, inr, arith}
 use Rattle.std.proofs.lemmas.Int.{ints}
+use Rattle.std.proofs.lemmas.List.{length-append}
 use Rattle.std.proofs.lemmas.List.Elements.{Contains-append_left, Contains-push, Contains-push_cases, All-contains}
 use Rattle.half_grid.specs.JoinedLists.{IsJoined}
 use Rattle.half_grid.specs.Nearness.{IsNear, IsShrunk}
@@ -24,6 +25,7 @@ parted_none d traps = (
     lone_of = λ z h. absurd (none_in_empty z h);
     rest_of = λ z h. absurd (none_in_empty z h);
     left = λ t. (λ h. absurd (omega (arith, h)), λ h. absurd (none_in_empty h.0 h.1));
+    few = omega arith;
   },
 )
 
@@ -33,14 +35,16 @@ was_or_is xs x z {P} h old new = elim (Contains-push_cases xs x z h) [ inl there
 
 -- one that touches no other
 pub parted_lone : (d : ℤ) (traps done shrunk rest small : List Trapezoid) (z : Trapezoid) → IsParted d traps done shrunk rest → Contains traps z
-    → IsLone traps z → ((t : Tile) → IsShrunk d d (IsInTrapezoid z) t ↔ IsInOne small t) → IsParted d traps (done ++ z ∷ []) (shrunk ++ small) rest
-parted_lone d traps done shrunk rest small z (lone, is) among alone left = (
+    → IsLone traps z → ((t : Tile) → IsShrunk d d (IsInTrapezoid z) t ↔ IsInOne small t) → length small ≤ 1
+    → IsParted d traps (done ++ z ∷ []) (shrunk ++ small) rest
+parted_lone d traps done shrunk rest small z (lone, is) among alone left one = (
   lone ++ z ∷ [],
   record {
     counted = λ t. omega (arith, count_append t done (z ∷ []), count_append t lone (z ∷ []), is.counted t);
     lone_of = λ y h. was_or_is lone z y h (λ there. is.lone_of y there) (λ same. subst (λ w. Contains traps w × IsLone traps w) same (among, alone));
     rest_of = λ y h. is.rest_of y h;
     left = λ t. (forward t, backward t);
+    few = omega (arith, is.few, one, length-append done (z ∷ []), length-append shrunk small);
   },
 )
   where
@@ -69,6 +73,7 @@ parted_rest d traps done shrunk rest z (lone, is) among = (
     lone_of = λ y h. is.lone_of y h;
     rest_of = λ y h. was_or_is rest z y h (λ there. is.rest_of y there) (λ same. subst (Contains traps) same among);
     left = λ t. is.left t;
+    few = omega (arith, is.few, length-append done (z ∷ []), length-append rest (z ∷ []));
   },
 )
 

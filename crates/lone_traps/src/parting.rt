@@ -1,5 +1,5 @@
 //! Lone trapezoids, shrunk by themselves.
-ghost use Rattle.std.specs.Prelude.{◌↔◌, ◌⊎◌, pos, ◌≤ℤ◌, ◌++◌, ◌∷◌, [], IfOk, IfSome, OnOk, Contains, List, IsFalse};
+ghost use Rattle.std.specs.Prelude.{◌↔◌, ◌⊎◌, ◌+◌, ◌≤◌, pos, ◌≤ℤ◌, length, ◌++◌, ◌∷◌, [], IfOk, IfSome, OnOk, Contains, List, IsFalse};
 ghost use Rattle.half_grid.specs.JoinedLists.{IsJoined};
 ghost use Rattle.half_grid.specs.Nearness.{IsShrunk};
 ghost use Rattle.half_grid.specs.Trapezoids.{Trapezoid};
@@ -49,6 +49,7 @@ pub fn shrink_lone(alloc: Global, traps: &[Trap], d: i64) -> Result<Option<Parte
     requires high { d ≤ℤ pos 65536 }
     requires joined { (window : RowRange) × IsJoined window traps.now }
     ensures left { IfOk result (λ answer. IfSome answer (λ parted. (t : Tile) → IsShrunk d d (IsInOne traps.now) t ↔ (IsInOne parted.shrunk.items t ⊎ IsShrunk d d (IsInOne parted.rest.items) t))) }
+    ensures few { IfOk result (λ answer. IfSome answer (λ parted. length parted.shrunk.items + length parted.rest.items ≤ length traps.now)) }
     ensures rest { IfOk result (λ answer. IfSome answer (λ parted. (z : Trapezoid) → Contains parted.rest.items z → Contains traps.now z)) }
 {
     let Some(marks) = touching(alloc, traps)? else {

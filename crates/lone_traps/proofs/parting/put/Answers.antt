@@ -1,4 +1,4 @@
-use Rattle.std.proofs.Common.{◌↔◌, ◌++◌, ◌∷◌, [], Option, w64, FitsSigned, subst}
+use Rattle.std.proofs.Common.{◌↔◌, ◌++◌, ◌∷◌, [], Option, w64, FitsSigned, subst, arith}
 use Rattle.std.proofs.lemmas.Int.{to_z-of_z}
 use Rattle.std.proofs.lemmas.List.{append-nil}
 use Rattle.std.specs.Option.{option_to_list}
@@ -23,7 +23,8 @@ returns-in_ok-push-2 c = λ traps done alone among parted.
     (parted_lone c.args.d traps done c.args.parted.now.shrunk.items c.args.parted.now.rest.items (c.in-Some.small ∷ []) c.args.trap.now parted among
     (alone c.if-touches.false)
     (subst (λ (o : Option Trapezoid). (t : Tile) → IsShrunk c.args.d c.args.d (IsInTrapezoid c.args.trap.now) t ↔ IsInOne (option_to_list o) t)
-    c.in-Some.is left)))
+    c.in-Some.is left)
+    (omega arith)))
 
 pub returns-in_default : goal.returns-in_default
 returns-in_default c = λ traps done alone among parted.
@@ -33,4 +34,5 @@ returns-in_default c = λ traps done alone among parted.
     (parted_lone c.args.d traps done c.args.parted.now.shrunk.items c.args.parted.now.rest.items [] c.args.trap.now parted among
     (alone c.if-touches.false)
     (subst (λ (o : Option Trapezoid). (t : Tile) → IsShrunk c.args.d c.args.d (IsInTrapezoid c.args.trap.now) t ↔ IsInOne (option_to_list o) t)
-    c.in_default.is left)))
+    c.in_default.is left)
+    (omega arith)))

@@ -48,3 +48,13 @@ returns-clause-left c =
     (subst (λ done. IsParted c.args.d traps done c.loop-k.parted.shrunk.items c.loop-k.parted.rest.items)
     (take_all c.loop-k.k traps (omega (arith, c.loop-k-test.false)))
     (simp to_z-of_z at c.loop-k.invariant))
+
+pub returns-clause-few : goal.returns-clause-few
+returns-clause-few c =
+    let d : FitsSigned w64 c.args.d = c.ranges.d in
+    let traps = c.args.traps.now in
+    let all : IsParted c.args.d traps traps c.loop-k.parted.shrunk.items c.loop-k.parted.rest.items =
+    subst (λ done. IsParted c.args.d traps done c.loop-k.parted.shrunk.items c.loop-k.parted.rest.items)
+    (take_all c.loop-k.k traps (omega (arith, c.loop-k-test.false)))
+    (simp to_z-of_z at c.loop-k.invariant) in
+    all.1.few
