@@ -115,7 +115,7 @@ pub(crate) fn agrees(first: Option<Pair>, layer: u64, datatype: u64) -> bool
 }
 
 /// How many shots the record gives.
-pub(crate) fn shot_count(repetition: &Option<Repetition>) -> u64
+pub(crate) fn count_of(repetition: &Option<Repetition>) -> u64
     requires { shot_count repetition.now < 2 ^ 64 }
     ensures { result ≡ shot_count repetition.now }
 {
