@@ -3,8 +3,9 @@
 
 What tools/layout_bytes.py writes must be the bytes that docs/FORMATS.md shows, and what it reads must be
 what was written. Shot files that are changed at random are read by tools/nettletide_shots.py with numpy,
-where it is there, and without: both must give the same shots and the same fault, and with PROGRAM those that
-`nettletide shots` prints. FILES is their number, 300 where it isn't given.
+where it is there, and without, in lanes, by a regular expression and a record at a time: all must give the
+same shots and the same fault, and with PROGRAM those that `nettletide shots` prints. FILES is their number,
+300 where it isn't given.
 """
 import os
 import random
@@ -17,6 +18,7 @@ HERE = os.path.dirname(os.path.abspath(__file__))
 sys.path.insert(0, os.path.join(HERE, "..", "tools"))
 import layout_bytes as lb  # noqa: E402
 import nettletide_shots as ns  # noqa: E402
+import shot_lanes  # noqa: E402
 from tool_files import Refused  # noqa: E402
 
 SQUARE = [(0, 0), (0, 10), (10, 10), (10, 0)]
@@ -102,6 +104,61 @@ def random_shot(some):
     return y, y + height, x - min(a, 0), x + width - max(b, 0), x + max(a, 0), x + width + min(b, 0)
 
 
+def changed(some, data, at):
+    """Changes the byte at a place, or takes it away, or puts one before it."""
+    change = some.randrange(4)
+    if change == 0:
+        data[at] ^= 1 << some.randrange(8)
+    elif change == 1:
+        data[at] = some.choice((0, 1, 2, 0x14, 0x7B, 0x80, 0xFF))
+    elif change == 2:
+        del data[at]
+    else:
+        data[at:at] = bytes([some.choice((0, 0x14, 0x7B, 0x80))])
+
+
+def singly(data, pair):
+    """The shots of records one at a time, and where the first one that is no legal shot begins."""
+    at, shots = 0, []
+    try:
+        while at < len(data):
+            shot, _, at = ns.record_at(data, at, pair)
+            shots.append(shot)
+    except ns.Wrong:
+        pass
+    return shots, at
+
+
+def test_lanes():
+    """Lanes give just what a record at a time gives, up to the last record; right ones of fewer than 42 bits are never left to
+    another way, but for bytes that look like the start of a record."""
+    some, kinds = random.Random(11), set()
+    for number in range(2000):
+        pair = some.choice(((1, 0), (300, 7), (0x14, 0x7B), (0x7B, 0x14), (0, 0x14)))
+        shots = [random_shot(some) for _ in range(some.choice((3, 20, 90)))]
+        if number % 3 == 0:
+            shots = [shot for shot in shots if shot[2:4] == shot[4:]]
+        if number % 5 == 0:
+            shots = [shot for shot in shots if max(map(abs, shot)) < 2**26] + [(4, 5, 0, 123, 0, 123)] * (number % 2)
+        data = bytearray(b"".join(ns.Records(*pair).spell(shots)))
+        is_right = number % 4 == 0
+        for _ in range(0 if is_right or not data else some.choice((1, 1, 2))):
+            changed(some, data, some.randrange(len(data)))
+        decoder = shot_lanes.LaneDecoder(lb.unsigned(*pair))
+        try:
+            found, used = decoder.shots(bytes(data))
+        except shot_lanes.Unusual:
+            assert not is_right or len(shots) < 2 or pair != (300, 7), number
+            continue
+        found = list(found)
+        wanted, end = singly(bytes(data[:used]), pair)
+        assert found == wanted and end == used and found, number
+        assert list(zip(*decoder.columns(bytes(data))[0])) == found
+        assert not is_right or len(found) == len(shots) - 1, number
+        kinds.add((decoder.slot, decoder.numbers(bytes(data))[1], is_right))
+    assert len(kinds) == 8, kinds
+
+
 def random_file(some, path):
     """A shot file of up to 400 shots, which is changed in up to two places."""
     layer, datatype = some.choice(((1, 0), (10, 0), (300, 7)))
@@ -110,16 +167,9 @@ def random_file(some, path):
     with open(path, "rb") as file:
         data = bytearray(file.read())
     for _ in range(some.choice((0, 1, 1, 2))):
-        at = some.choice((some.randrange(len(data)), some.randrange(60), some.randrange(41, len(data) - 254)))
-        change = some.randrange(4)
-        if change == 0:
-            data[at] ^= 1 << some.randrange(8)
-        elif change == 1:
-            data[at] = some.choice((0, 1, 2, 0x14, 0x7B, 0x80, 0xFF))
-        elif change == 2:
-            del data[at]
-        else:
-            data[at:at] = bytes([some.choice((0, 0x14, 0x7B, 0x80))])
+        changed(some, data, some.choice((some.randrange(len(data)), some.randrange(60), some.randrange(41, len(data) - 254))))
+    if some.randrange(8) == 0:
+        del data[some.randrange(len(data)):]
     with open(path, "wb") as file:
         file.write(data)
 
@@ -146,19 +196,38 @@ def test_what_is_written():
                 raise AssertionError(f"{shot} was written")
 
 
+class NoLanes:
+    """Leaves all to the regular expression."""
+
+    def __init__(self, pair):
+        pass
+
+    def shots(self, data):
+        raise shot_lanes.Unusual
+
+    columns = shots
+
+
 def each_way():
-    """Tuples and columns, with numpy, where it is there, and without it."""
-    numpy = ns.numpy
-    for ns.numpy in {numpy, None}:
+    """Tuples and columns, with numpy, where it is there, without it in lanes and by a regular expression; and a record at a time."""
+    numpy, lanes = ns.numpy, ns.LaneDecoder
+    for ns.numpy, ns.LaneDecoder in {(numpy, lanes), (None, lanes), (None, NoLanes)}:
         yield from ("tuples", "columns")
-    ns.numpy = numpy
+    ns.numpy, ns.LaneDecoder = numpy, lanes
+    yield "singly"
 
 
 def read(path, way):
     """The shots of a file and the fault that ended it, by tuples or by columns."""
     shots = []
     try:
-        if way == "tuples":
+        if way == "singly":
+            begin = ns.ShotFile(path).begin
+            with open(path, "rb") as file:
+                data = file.read()[begin:]
+            for some in ns.ShotFile(path)._singly(data, begin, "shots"):
+                shots += some
+        elif way == "tuples":
             for shot in ns.read_shots(path):
                 shots.append(shot)
         else:
@@ -181,11 +250,13 @@ def printed(program, path):
 def test_shot_files(program, count):
     """Every way to read a file gives the same."""
     numpy, some = ns.numpy, random.Random(7)
+    pieces = ns.PlainDecoder.piece, ns.ArrayDecoder.piece
     with tempfile.TemporaryDirectory() as folder:
         path = os.path.join(folder, "shots.oas")
         faults = set()
         for number in range(count):
             random_file(some, path)
+            ns.PlainDecoder.piece = ns.ArrayDecoder.piece = some.choice((100, 1000, 8192))
             answers = [read(path, way) for way in each_way()]
             assert all(answer == answers[0] for answer in answers), (number, [answer[1] for answer in answers])
             shots, fault = answers[0]
@@ -193,6 +264,7 @@ def test_shot_files(program, count):
             if program:
                 listed, said = printed(program, path)
                 assert said == fault and (fault or listed == shots), (number, said, fault)
+    ns.PlainDecoder.piece, ns.ArrayDecoder.piece = pieces
     assert faults == {"", "head", "record", "spelling", "illegal", "end"} or count < 300, faults
     return "numpy and without" if numpy else "no numpy here"
 

@@ -22,8 +22,8 @@ A file is taken exactly where `nettletide shots` takes it, but for its length, w
 file raises ShotFault with the file, the fault and the byte in the program's words, once the shots before it
 were given. Only a piece of the file is in memory. With numpy a piece is decoded an array at a time: the
 bytes that end numbers give where numbers begin, and the seventh bits are put together for all numbers at
-once. Without it a regular expression finds the records, and numbers are looked up among those that were seen
-before.
+once. Without it some hundred records are decoded at once in one whole number (shot_lanes.py). What that
+leaves is found by a regular expression, with numbers looked up among those that were seen before.
 """
 from __future__ import annotations
 
@@ -35,6 +35,7 @@ from typing import Dict, Iterable, Iterator, List, Optional, Sequence, Tuple
 
 sys.path.insert(0, os.path.dirname(os.path.abspath(__file__)))
 from layout_bytes import END, MAGIC, shots_head, signed, unsigned  # noqa: E402
+from shot_lanes import LaneDecoder, Unusual  # noqa: E402
 from tool_files import replacing  # noqa: E402
 
 try:
@@ -224,13 +225,28 @@ class PlainDecoder:
 
     def __init__(self, pair: Tuple[int, int]):
         spelled = unsigned(*pair)
+        self.lanes = LaneDecoder(spelled)
         forms = [b"\x14\x7B%b" + 2 * NUMBER, b"[\x18\x19]\x7B%b" + 3 * NUMBER, b"\x17\x7B%b" + 4 * NUMBER]
         some = b"|".join(form % re.escape(spelled) for form in forms)
         self.records = re.compile(b"(%b)(%b)(%b)|(.+)" % (some, NUMBER, NUMBER), re.DOTALL)
         self.numbers, self.shapes = Numbers(), Shapes(len(spelled))
 
     def shots(self, data: bytes) -> Tuple[Iterable[Shot], int]:
-        """The shots of the whole records, and how many bytes these have."""
+        """The shots of whole records, and how many bytes these have. The last record may be left for the next piece."""
+        try:
+            return self.lanes.shots(data)
+        except Unusual:
+            return self.found(data)
+
+    def columns(self, data: bytes) -> Tuple[Columns, int]:
+        try:
+            return self.lanes.columns(data)
+        except Unusual:
+            shots, end = self.found(data)
+            return tuple(map(list, zip(*shots))) if shots else ([],) * 6, end
+
+    def found(self, data: bytes) -> Tuple[List[Shot], int]:
+        """The same of all whole records, each found by a regular expression, and with numbers that are looked up."""
         found = self.records.findall(data)
         end = len(data)
         if found and found[-1][3]:
@@ -247,10 +263,6 @@ class PlainDecoder:
         if parities and any(begin in parities and x + y & 1 != parities[begin] for begin, x, y in zip(begins, xs, ys)):
             raise Wrong("illegal")
         return [(y, y + high, x + a, x + b, x + c, x + d) for (high, a, b, c, d), x, y in zip(shapes, xs, ys)], end
-
-    def columns(self, data: bytes) -> Tuple[Columns, int]:
-        shots, end = self.shots(data)
-        return tuple(map(list, zip(*shots))) if shots else ([],) * 6, end
 
 
 # ---- a piece at a time, with numpy
@@ -301,26 +313,51 @@ class ArrayDecoder:
 
     def columns(self, data: bytes) -> Tuple[Columns, int]:
         """The shots of the whole records in six columns, and how many bytes these have."""
+        (y0, y1, a, b, *upper), end = self.sides(data)
+        return (y0, y1, a, b, *(upper or (a.copy(), b.copy()))), end
+
+    def shots(self, data: bytes) -> Tuple[Iterable[Shot], int]:
+        (y0, y1, *sides), end = self.sides(data)
+        y0, y1, *sides = (column.tolist() for column in (y0, y1, *sides))
+        return zip(y0, y1, *sides, *(sides if len(sides) == 2 else ())), end
+
+    def sides(self, data: bytes):
+        """The columns, but without those of the upper sides where all shots are rectangles, and how many bytes they have."""
         values, begins = self.numbers(data)
         if len(values) < 4:
-            return (numpy.empty(0, numpy.int64),) * 6, 0
+            return (numpy.empty(0, numpy.int64),) * 4, 0
         at, lengths = self.starts(values)
         if not len(at):
-            return (numpy.empty(0, numpy.int64),) * 6, 0
-        signs = -(values & 1)
-        signed_values = (values >> 1 ^ signs) - signs
+            return (numpy.empty(0, numpy.int64),) * 4, 0
+        ends = at + lengths
         kinds, wide, high = values[at], values[at + 4], values[at + 5]
+        x, y = self.signed(values[ends - 2]), self.signed(values[ends - 1])
+        if bool((kinds == 0x14).all()):
+            return self.boxes(x, y, wide, high), int(begins[ends[-1]])
         a, b = numpy.zeros_like(wide), numpy.zeros_like(wide)
         for kind, slant, field in ((0x17, a, 6), (0x17, b, 7), (0x18, a, 6), (0x19, b, 6)):
             some = numpy.flatnonzero(kinds == kind)
-            slant[some] = signed_values[at[some] + field]
+            slant[some] = self.signed(values[at[some] + field])
             if not slant[some].all():
                 raise Wrong("spelling")
-        ends = at + lengths
-        if bool((values[ends - 1] == 1).any() or (values[ends - 2] == 1).any()):
-            raise Wrong("spelling")
-        x, y = signed_values[ends - 2], signed_values[ends - 1]
         return self.corners(x, y, wide, high, a, b), int(begins[ends[-1]])
+
+    @staticmethod
+    def signed(values):
+        """Numbers with their signs in bit 0."""
+        if bool((values == 1).any()):
+            raise Wrong("spelling")
+        signs = -(values & 1)
+        return (values >> 1 ^ signs) - signs
+
+    @staticmethod
+    def boxes(x, y, wide, high):
+        """The columns of rectangles but the last two."""
+        if bool((wide == 0).any() or (high == 0).any()):
+            raise Wrong("illegal")
+        if max(-x.min(), x.max(), -y.min(), y.max(), wide.max(), high.max()) > REACH // 2:
+            raise Wrong("illegal, or nearly")
+        return y, y + high, x, x + wide
 
     @staticmethod
     def corners(x, y, wide, high, a, b) -> Columns:
@@ -335,10 +372,6 @@ class ArrayDecoder:
         if not bool((is_legal & is_near).all()):
             raise Wrong("illegal, or nearly")
         return y, y + high, lower[0], lower[1], upper[0], upper[1]
-
-    def shots(self, data: bytes) -> Tuple[Iterable[Shot], int]:
-        columns, end = self.columns(data)
-        return zip(*(column.tolist() for column in columns)), end
 
 
 def chained(some: List[int], lengths: List[int]) -> List[int]:
@@ -402,7 +435,7 @@ class ShotFile:
                     yield some
                     at += used
                     rest = rest[used:]
-                if len(rest) > LONGEST_RECORD:
+                if len(rest) > 2 * LONGEST_RECORD:
                     break
             file.seek(at)
             yield from self._singly(file.read(), at, what)
