@@ -10,8 +10,8 @@ use Rattle.std.specs.Prelude.{◌≡◌, ℕ, ◌≤◌, List, length, slice_get
 use Rattle.depot.specs.Content.{Content, held_as}
 use Rattle.layout_model.specs.declared.cells.Layout.{Layout}
 use Rattle.layout_model.specs.declared.pair.Pair.{Pair}
-use Rattle.gds_reader.specs.Reading.{IsGdsiiLayoutOf as IsGdsLayoutOf}
-use Rattle.oas_reader.specs.Reading.{IsGdsiiLayoutOf as IsOasLayoutOf}
+use Rattle.gds_reader.specs.Reading.{IsGdsiiLayoutOf}
+use Rattle.oas_reader.specs.Reading.{IsOasisLayoutOf}
 use Rattle.cell_tree.specs.Cells.{cell_number}
 use Rattle.cell_tree.specs.Trees.{IsTree, Rooted}
 use Rattle.deck_text.specs.Decks.{IsDeck, layers_of}
@@ -42,8 +42,8 @@ IsFormatOf bytes Oasis = BeginsAsOasis bytes
 
 -- the bytes of a file of this format hold this layout, with so many grid steps in a micrometre and the shapes on these pairs
 abbrev pub IsLayoutIn : Format → List ℕ → ℕ → List Pair → Layout → Type 0
-IsLayoutIn Gdsii bytes unit wanted l = IsGdsLayoutOf bytes unit wanted l
-IsLayoutIn Oasis bytes unit wanted l = IsOasLayoutOf bytes unit wanted l
+IsLayoutIn Gdsii bytes unit wanted l = IsGdsiiLayoutOf bytes unit wanted l
+IsLayoutIn Oasis bytes unit wanted l = IsOasisLayoutOf bytes unit wanted l
 
 -- the bytes are a file of this format with this layout, of the deck's unit and with the shapes on the deck's layers
 pub record IsLayoutFor (d : Deck) (bytes : List ℕ) (f : Format) (l : Layout) : Type 0 where

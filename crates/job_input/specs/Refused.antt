@@ -2,15 +2,15 @@
 use Rattle.std.specs.Prelude.{◌≡◌, ◌⊎◌, ℕ, List, Some, None}
 use Rattle.depot.specs.Content.{Content, IsNotThere, IsLongerThan}
 use Rattle.layout_model.specs.declared.cells.Layout.{Layout}
-use Rattle.gds_reader.specs.Reading.{IsFirstGdsiiFault as IsFirstGdsFault}
+use Rattle.gds_reader.specs.Reading.{IsFirstGdsiiFault}
 use Rattle.gds_reader.specs.declared.refusing.GdsBad.{GdsBad}
-use Rattle.oas_reader.specs.Reading.{IsFirstGdsiiFault as IsFirstOasFault}
+use Rattle.oas_reader.specs.Reading.{IsFirstOasisFault}
 use Rattle.oas_reader.specs.declared.refusing.OasBad.{OasBad}
 use Rattle.cell_tree.specs.Cells.{cell_number}
-use Rattle.cell_tree.specs.Faults.{IsFirstGdsiiFault as IsFirstTreeFault}
+use Rattle.cell_tree.specs.Faults.{IsFirstTreeFault}
 use Rattle.cell_tree.specs.declared.faults.TreeBad.{TreeBad}
 use Rattle.cell_tree.specs.declared.faults.TreeBad.TheVariants.{NoTop}
-use Rattle.deck_text.specs.Decks.{IsFirstGdsiiFault as IsFirstDeckFault, layers_of}
+use Rattle.deck_text.specs.Decks.{IsFirstDeckFault, layers_of}
 use Rattle.deck_text.specs.declared.refusal.DeckBad.{DeckBad}
 use Rattle.deck_text.specs.declared.deck.Deck.{Deck}
 use Rattle.job_input.specs.Accepted.{Holds, HoldsDeck, IsFormatOf, HoldsLayout}
@@ -37,7 +37,7 @@ pub record IsLongLayout (c : Content) (layout deck : List ℕ) (top : List ℕ) 
 -- the bytes are no GDSII layout of the deck's unit, and this is their first fault
 pub record IsGdsFaultFor (d : Deck) (bytes : List ℕ) (bad : GdsBad) : Type 0 where
   pub is_format : IsFormatOf bytes Gdsii
-  pub fault : IsFirstGdsFault bytes d.unit (layers_of d.steps) bad
+  pub fault : IsFirstGdsiiFault bytes d.unit (layers_of d.steps) bad
 
 -- the layout has bytes within the limit that are no GDSII layout, and this is their first fault
 pub record HoldsGdsFault (c : Content) (layout deck : List ℕ) (bad : GdsBad) (top : List ℕ) : Type 0 where
@@ -51,7 +51,7 @@ pub record HoldsGdsFault (c : Content) (layout deck : List ℕ) (bad : GdsBad) (
 -- the bytes are no OASIS layout of the deck's unit, and this is their first fault
 pub record IsOasFaultFor (d : Deck) (bytes : List ℕ) (bad : OasBad) : Type 0 where
   pub is_format : IsFormatOf bytes Oasis
-  pub fault : IsFirstOasFault bytes d.unit (layers_of d.steps) bad
+  pub fault : IsFirstOasisFault bytes d.unit (layers_of d.steps) bad
 
 -- the layout has bytes within the limit that are no OASIS layout, and this is their first fault
 pub record HoldsOasFault (c : Content) (layout deck : List ℕ) (bad : OasBad) (top : List ℕ) : Type 0 where
