@@ -8,7 +8,7 @@ use Rattle.shot_reader.specs.Refusals.{IsFirstShotFault}
 use Rattle.shot_reader.specs.declared.refusing.ShotBad.{ShotBad}
 use Rattle.shot_listing.specs.Listing.{listing}
 use Rattle.shot_repeat.specs.Packed.{IsPackedFile}
-use Rattle.shot_repeat.specs.Packing.{packed_text, packed_records}
+use Rattle.shot_repeat.specs.Packer.{packed_text, packed_records}
 use Rattle.shot_repeat.specs.Refusals.{IsFirstPackFault}
 use Rattle.shot_repeat.specs.declared.refusing.PackBad.{PackBad}
 pub use Rattle.file_check.specs.Files.{ShotData}

@@ -11,7 +11,7 @@ use Rattle.oas_lex.specs.ShotText.{fields_of}
 use Rattle.oas_lex.specs.declared.fields.ShotFields.{ShotFields}
 use Rattle.oas_lex.proofs.ForCallers.{same_fields}
 use Rattle.shot_repeat.specs.Packed.{most_of_record}
-use Rattle.shot_repeat.specs.Packing.{step_between, has_shape_of, is_step, followers, run_length, IsRun, repetition_of}
+use Rattle.shot_repeat.specs.Packer.{step_between, has_shape_of, is_step, followers, run_length, repetition_of}
 use Rattle.shot_repeat.specs.Values.{moved, moved_from, shot_count, step_of}
 use Rattle.shot_repeat.specs.declared.record.Repetition.{Repetition}
 use Rattle.shot_repeat.proofs.Gifts.{moved_none, moved_next}
@@ -174,7 +174,7 @@ back step base a (b ∷ rest) k (suc n) e h g =
       back step base b rest (suc k) n first (omega (arith, h)) others,
     )
 
-longest_by : (a b first : ShotFields) (rest : List ShotFields) (step : Point) (n : ℕ) → suc (suc n) ≤ most_of_record → suc (suc n) ≤ length (a ∷ b ∷ rest)
+pub longest_by : (a b first : ShotFields) (rest : List ShotFields) (step : Point) (n : ℕ) → suc (suc n) ≤ most_of_record → suc (suc n) ≤ length (a ∷ b ∷ rest)
     → take (suc (suc n)) (a ∷ b ∷ rest) ≡ moved_from first step 0 (suc (suc n)) → suc (suc n) ≤ run_length (a ∷ b ∷ rest)
 longest_by a b first rest step n few within e =
     let one : a ≡ moved first step 0 = cc in
@@ -189,39 +189,7 @@ longest_by a b first rest step n few within e =
     (back step first a (b ∷ rest) 0 (suc n) one (omega (arith, within)) others) in
     omega (arith, few, many)
 
-pub longest : (fs : List ShotFields) (count : ℕ) → IsRun fs count → count ≤ run_length fs
-longest fs zero r = omega arith
-longest [] (suc n) r = omega (arith, r.within)
-longest (a ∷ []) (suc n) r = omega (arith, r.within)
-longest (a ∷ b ∷ rest) (suc zero) r = omega arith
-longest (a ∷ b ∷ rest) (suc (suc n)) r = longest_by a b r.first rest r.step n r.few r.within r.are
-
-nothing : ShotFields
-nothing = record { layer = 0; datatype = 0; width = 0; height = 0; left_delta = pos 0; right_delta = pos 0; x = pos 0; y = pos 0 }
-
-no_point : Point
-no_point = record { x = pos 0; y = pos 0 }
-
-run_by : (l d : ℕ) (a b : ShotFields) (rest : List ShotFields) (n : ℕ) → AreOf l d (a ∷ b ∷ rest)
+pub run_by : (l d : ℕ) (a b : ShotFields) (rest : List ShotFields) (n : ℕ) → AreOf l d (a ∷ b ∷ rest)
     → n ≡ run_length (a ∷ b ∷ rest) → take n (a ∷ b ∷ rest) ≡ moved_from a (step_between a b) 0 n
 run_by l d a b rest zero h e = absurd (omega (arith, e))
 run_by l d a b rest (suc n) h e = run_is l d a b rest n h (omega (arith, e))
-
-pub run : (l d : ℕ) (fs : List ShotFields) → AreOf l d fs → IsRun fs (run_length fs)
-run l d [] h = record { few = omega arith; first = nothing; step = no_point; within = omega arith; are = refl }
-run l d (a ∷ []) h =
-    record {
-      few = omega arith;
-      first = a;
-      step = no_point;
-      within = omega arith;
-      are = ap (λ (f : ShotFields). f ∷ [])
-          (moved_none a no_point);
-    }
-run l d (a ∷ b ∷ rest) h = record {
-  few = run_few (a ∷ b ∷ rest);
-  first = a;
-  step = step_between a b;
-  within = run_within (a ∷ b ∷ rest);
-  are = run_by l d a b rest (run_length (a ∷ b ∷ rest)) h refl;
-}

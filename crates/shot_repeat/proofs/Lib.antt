@@ -14,6 +14,7 @@ pub mod Files
 pub mod Others
 pub mod Repeated
 pub mod Followers
+pub mod Packers
 pub mod Packings
 pub mod Shorter
 pub mod Written

@@ -14,7 +14,8 @@ use Rattle.oas_lex.proofs.ForCallers.{same_fields}
 use Rattle.shot_reader.specs.Near.{AreNear}
 use Rattle.shot_reader.proofs.ForCallers.{own_near}
 use Rattle.shot_repeat.specs.Packed.{HasFew}
-use Rattle.shot_repeat.specs.Packing.{run_length, repetition_of, changed, changed_place, packed_record, records_of, packed_records, packed_text}
+use Rattle.shot_repeat.specs.Packer.{run_length, repetition_of, records_of, packed_records, packed_text}
+use Rattle.shot_repeat.specs.Packing.{changed, changed_place, packed_record}
 use Rattle.shot_repeat.specs.PackingLaws.{TextStands, TextIsFile}
 use Rattle.shot_repeat.specs.Records.{IsNarrowRepetition, IsNarrow, IsNarrowNumber, IsNarrowPlace}
 use Rattle.shot_repeat.specs.Values.{newer, last_written, IsDefined, fields_in, shot_count, step_of, moved_from, given, all_given, AreDefined}

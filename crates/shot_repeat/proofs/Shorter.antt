@@ -1,7 +1,7 @@
 -- The packed text of shots is no longer than their plain one: a repetition takes no more bytes than two of the records that
 -- it stands for.
 use Rattle.std.proofs.Common.{◌≡◌, inl, inr, ℕ, zero, suc, ◌+◌, ◌-◌, ◌*◌, ◌/◌, ◌≤◌, ℤ, pos, negsuc, ◌-ℤ◌, unsigned_abs, Bool, true, false}
-use Rattle.std.proofs.Common.{cond, nat_eq, nat_le, List, [], ◌∷◌, ◌++◌, length, map, drop, flat_map, Option, Some, None, refl, arith, ap, sym, length-append}
+use Rattle.std.proofs.Common.{cond, nat_eq, nat_le, List, [], ◌∷◌, ◌++◌, length, map, drop, flat_map, Option, Some, None, refl, arith, ap, length-append}
 use Rattle.std.specs.Prelude.{◌&&◌}
 use Rattle.std.specs.Ordering.{int_eq}
 use Rattle.std.proofs.lemmas.Bool.{cases_lt}
@@ -13,7 +13,8 @@ use Rattle.oas_lex.specs.ShotText.{head, end, delta_text, text_of, fields_of, sp
 use Rattle.oas_lex.specs.Spelling.{groups, unsigned_text, signed_code, signed_text}
 use Rattle.oas_lex.specs.declared.fields.ShotFields.{ShotFields}
 use Rattle.oas_lex.proofs.ForCallers.{groups_last, groups_next, length_unsigned, text_opens, spelling_is}
-use Rattle.shot_repeat.specs.Packing.{has_shape_of, is_step, step_between, followers, run_length, repetition_of, changed, changed_place, packed_record, records_of, packed_records, packed_text}
+use Rattle.shot_repeat.specs.Packer.{has_shape_of, is_step, step_between, followers, run_length, repetition_of, records_of, packed_records, packed_text}
+use Rattle.shot_repeat.specs.Packing.{changed, changed_place, packed_record}
 use Rattle.shot_repeat.specs.PackingLaws.{TextIsShort}
 use Rattle.shot_repeat.specs.Records.{number_text, place_text, step_code, repetition_text, record_text}
 use Rattle.shot_repeat.specs.Values.{shot_count}

@@ -11,7 +11,8 @@ use Rattle.oas_lex.specs.ShotText.{head, end, fields_of}
 use Rattle.oas_lex.specs.declared.fields.ShotFields.{ShotFields}
 use Rattle.shot_writer.specs.Writing.{IsWrittenButFor}
 use Rattle.shot_writer.proofs.ForCallers.{part_of, with_written-twice, file_more}
-use Rattle.shot_repeat.specs.Packing.{repetition_of, packed_record, records_of, packed_records, packed_text}
+use Rattle.shot_repeat.specs.Packer.{repetition_of, records_of, packed_records, packed_text}
+use Rattle.shot_repeat.specs.Packing.{packed_record}
 use Rattle.shot_repeat.specs.Records.{body_text, repetition_text, record_text}
 use Rattle.shot_repeat.specs.Values.{shot_count}
 use Rattle.shot_repeat.specs.declared.record.PackRecord.{PackRecord}

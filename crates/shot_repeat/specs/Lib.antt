@@ -3,6 +3,7 @@ pub mod Packed
 pub mod Records
 pub mod Values
 pub mod Packing
+pub mod Packer
 pub mod Refusals
 -- ---- what is kept inside
 pub mod Laws

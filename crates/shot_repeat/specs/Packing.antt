@@ -3,8 +3,8 @@
 -- A run of three or more is one record with a repetition; else the first shot alone is one. The layer and the datatype
 -- are written in the first record only. Width, height, x and y are written exactly where they differ from the record
 -- before; in the first record width and height are written, and x and y where they aren't 0.
-use Rattle.std.specs.Prelude.{ℕ, zero, suc, ◌≡◌, ◌+◌, ◌-◌, ◌≤◌, ℤ, pos, ◌-ℤ◌, Bool, ◌&&◌, nat_eq, nat_le, min, List, []}
-use Rattle.std.specs.Prelude.{◌∷◌, ◌++◌, map, length, take, flat_map, Option, Some, None, if◌then◌else◌}
+use Rattle.std.specs.Prelude.{ℕ, ◌≡◌, ◌⊎◌, ◌-◌, ◌<◌, ◌≤◌, ℤ, pos, nat_eq, List, [], ◌∷◌, ◌++◌}
+use Rattle.std.specs.Prelude.{slice_get, map, drop, flat_map, Option, Some, None, if◌then◌else◌}
 use Rattle.std.specs.Ordering.{int_eq}
 use Rattle.half_grid.specs.Trapezoids.{Trapezoid}
 use Rattle.half_grid.specs.declared.plane.Point.{Point}
@@ -12,53 +12,23 @@ use Rattle.oas_lex.specs.ShotText.{head, end, fields_of}
 use Rattle.oas_lex.specs.declared.fields.ShotFields.{ShotFields}
 use Rattle.shot_repeat.specs.Packed.{most_of_record}
 use Rattle.shot_repeat.specs.Records.{record_text}
-use Rattle.shot_repeat.specs.Values.{shot_count, moved_from}
+use Rattle.shot_repeat.specs.Values.{moved}
 use Rattle.shot_repeat.specs.declared.record.PackRecord.{PackRecord}
 use Rattle.shot_repeat.specs.declared.record.Repetition.{Repetition}
 
 -- ---- runs
 
--- how far the second lies from the first
-abbrev pub step_between : ShotFields → ShotFields → Point
-step_between a b = record { x = b.x -ℤ a.x; y = b.y -ℤ a.y }
-
--- whether both have one width, one height and the same deltas
-abbrev pub has_shape_of : ShotFields → ShotFields → Bool
-has_shape_of a b = (nat_eq a.width b.width && nat_eq a.height b.height) && (int_eq a.left_delta b.left_delta && int_eq a.right_delta b.right_delta)
-
--- whether the second is the first, moved by the step
-abbrev pub is_step : Point → ShotFields → ShotFields → Bool
-is_step step a b = has_shape_of a b && (int_eq (b.x -ℤ a.x) step.x && int_eq (b.y -ℤ a.y) step.y)
-
--- how many of the shots after this one are, from the first on, each the one before it moved by the step
-abbrev pub followers : Point → ShotFields → List ShotFields → ℕ
-followers step a [] = 0
-followers step a (b ∷ rest) = if is_step step a b then suc (followers step b rest) else 0
-
--- how many shots the run from the first on has
-abbrev pub run_length : List ShotFields → ℕ
-run_length [] = 0
-run_length (a ∷ []) = 1
-run_length (a ∷ b ∷ rest) = min most_of_record (1 + followers (step_between a b) a (b ∷ rest))
-
--- the first so many are the first moved by no step, one step, two steps and so on
-pub record IsRun (fields : List ShotFields) (count : ℕ) : Type 0 where
+-- of a shot and those after it, the first `count` are that shot, moved by no step, one step, two steps and so on
+pub record AreSteps (first : ShotFields) (others : List ShotFields) (step : Point) (count : ℕ) : Type 0 where
   pub few : count ≤ most_of_record
-  pub first : ShotFields
-  pub step : Point
-  pub within : count ≤ length fields
-  pub are : take count fields ≡ moved_from first step 0 count
+  pub are : (k : ℕ) → k < count → slice_get (first ∷ others) k ≡ Some (moved first step k)
+
+-- they are a run: no step gives more
+pub record IsRun (first : ShotFields) (others : List ShotFields) (step : Point) (count : ℕ) : Type 0 where
+  pub steps : AreSteps first others step count
+  pub longest : (any : Point) (more : ℕ) → AreSteps first others any more → more ≤ count
 
 -- ---- records
-
--- the repetition of the record that stands for the run from the first shot on, if it has one
-abbrev pub repetition_of : List ShotFields → Option Repetition
-repetition_of [] = None
-repetition_of (a ∷ []) = None
-repetition_of (a ∷ b ∷ rest) =
-    if nat_le 3 (run_length (a ∷ b ∷ rest))
-    then Some (record { more = run_length (a ∷ b ∷ rest) - 2; x = b.x -ℤ a.x; y = b.y -ℤ a.y })
-    else None
 
 -- a number that is written where it differs from the one before
 abbrev pub changed : ℕ → ℕ → Option ℕ
@@ -92,17 +62,25 @@ packed_record (Some last) f repetition = record {
   repetition = repetition;
 }
 
--- the records of shots, the first so many of which the record before stands for
-abbrev pub records_of : Option ShotFields → ℕ → List ShotFields → List PackRecord
-records_of last skip [] = []
-records_of last (suc skip) (f ∷ rest) = records_of last skip rest
-records_of last zero (f ∷ rest) =
-    packed_record last f (repetition_of (f ∷ rest)) ∷ records_of (Some f) (shot_count (repetition_of (f ∷ rest)) - 1) rest
+-- the repetition of a run
+abbrev pub repeated : Point → ℕ → Repetition
+repeated step count = record { more = count - 2; x = step.x; y = step.y }
 
--- the records of a list of shots of one layer and one datatype
-abbrev pub packed_records : ℕ → ℕ → List Trapezoid → List PackRecord
-packed_records layer datatype shots = records_of None 0 (map (fields_of layer datatype) shots)
+-- The records of shots; `last` is the first shot of the record before them, if there is one. A run of three or more
+-- from the first shot on is one record with a repetition, and the rest are those of what follows the run. Else the
+-- first shot alone is one record, and the rest are those of the others.
+abbrev pub ArePacked : Option ShotFields → List ShotFields → List PackRecord → Type 0
+ArePacked last [] [] = Unit {0}
+ArePacked last [] (r ∷ records) = ⊥
+ArePacked last (first ∷ others) [] = ⊥
+ArePacked last (first ∷ others) (r ∷ records) =
+    (step : Point) × (count : ℕ) × IsRun first others step count
+    × (((3 ≤ count) × (r ≡ packed_record last first (Some (repeated step count)))
+    × ArePacked (Some first) (drop count (first ∷ others)) records)
+    ⊎ ((count < 3) × (r ≡ packed_record last first None) × ArePacked (Some first) others records))
 
--- the packed text of a unit, a layer, a datatype and a list of shots
-unfoldable pub packed_text : ℕ → ℕ → ℕ → List Trapezoid → List ℕ
-packed_text unit layer datatype shots = head unit ++ flat_map record_text (packed_records layer datatype shots) ++ end
+-- the packed text of a unit, a layer, a datatype and a list of shots, and its records
+pub record IsPackingOf (unit layer datatype : ℕ) (shots : List Trapezoid)
+    (records : List PackRecord) (text : List ℕ) : Type 0 where
+  pub packed : ArePacked None (map (fields_of layer datatype) shots) records
+  pub is : text ≡ head unit ++ flat_map record_text records ++ end

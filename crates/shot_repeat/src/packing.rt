@@ -4,7 +4,8 @@ ghost use Rattle.depot.specs.Counting.{CountsWrites};
 ghost use Rattle.depot.specs.Doing.{Makes, Writes};
 ghost use Rattle.oas_lex.specs.ShotText.{IsUnit, fields_of};
 ghost use Rattle.shot_reader.specs.Near.{AreNear};
-ghost use Rattle.shot_repeat.specs.Packing.{changed, changed_place, packed_record, packed_records, packed_text};
+ghost use Rattle.shot_repeat.specs.Packer.{packed_records, packed_text};
+ghost use Rattle.shot_repeat.specs.Packing.{changed, changed_place, packed_record, IsPackingOf};
 ghost use Rattle.shot_repeat.specs.Records.{IsNarrow, IsNarrowRepetition, record_text};
 ghost use Rattle.shot_writer.specs.Holding.{HoldsWritten};
 
@@ -141,6 +142,9 @@ pub fn pack_shots<D: Depot>(
     ensures content { Makes D.tells (D.content depot.old) (D.content depot.new)
         name.now (packed_text head.unit head.pair.layer head.pair.datatype shots.now) result }
     ensures count { IfOk result (λ count. count ≡ length (packed_records head.pair.layer head.pair.datatype shots.now)) }
+    ensures packed { IsPackingOf head.unit head.pair.layer head.pair.datatype shots.now
+        (packed_records head.pair.layer head.pair.datatype shots.now)
+        (packed_text head.unit head.pair.layer head.pair.datatype shots.now) }
     ensures counts { CountsWrites (D.counts depot.old) (D.counts depot.new) result }
 {
     make_file(depot, name, head_text(u64::from(head.unit)).bytes())?;

@@ -4,7 +4,7 @@ ghost use Rattle.half_grid.specs.Trapezoids.{Trapezoid};
 ghost use Rattle.oas_lex.specs.ShotText.{fields_of};
 ghost use Rattle.shot_reader.specs.Near.{AreNear};
 ghost use Rattle.shot_repeat.specs.Packed.{most_of_record};
-ghost use Rattle.shot_repeat.specs.Packing.{step_between, has_shape_of, is_step, followers, run_length, repetition_of};
+ghost use Rattle.shot_repeat.specs.Packer.{step_between, has_shape_of, is_step, followers, run_length, repetition_of};
 ghost use Rattle.shot_repeat.specs.Records.{IsNarrowRepetition};
 
 use crate::record::Repetition;

@@ -2,6 +2,7 @@ use Rattle.std.proofs.Common.{◌≡◌, ℕ, List, ap, subst, ◌∙◌, rules}
 use Rattle.depot.specs.Content.{with_file, with_written, IsPartMade, IsPartWritten}
 use Rattle.depot.proofs.ForCallers.{refused}
 use Rattle.oas_lex.specs.ShotText.{head}
+use Rattle.shot_repeat.proofs.Packers.{text_is_packed}
 use Rattle.shot_repeat.proofs.Written.{file_written, records_made, made_head, made_records, made_end}
 use Rattle.shot_repeat.proofs.packing.pack_shots.Goals as goal
 
@@ -61,3 +62,15 @@ returns-clause-content g c = record {
       (c.in_ok-write_whole.ensures.content.ok told ∙ ap (with_written (g.D.Depot.content c.put_records.new.depot)) c.end_text.ensures);
   refused = search rules;
 }
+
+pub returns-in_err-make_file-clause-packed : goal.returns-in_err-make_file-clause-packed
+returns-in_err-make_file-clause-packed g c = text_is_packed c.args.head.unit c.args.head.pair.layer c.args.head.pair.datatype c.args.shots.now
+
+pub returns-in_err-records-clause-packed : goal.returns-in_err-records-clause-packed
+returns-in_err-records-clause-packed g c = text_is_packed c.args.head.unit c.args.head.pair.layer c.args.head.pair.datatype c.args.shots.now
+
+pub returns-in_err-write_whole-clause-packed : goal.returns-in_err-write_whole-clause-packed
+returns-in_err-write_whole-clause-packed g c = text_is_packed c.args.head.unit c.args.head.pair.layer c.args.head.pair.datatype c.args.shots.now
+
+pub returns-clause-packed : goal.returns-clause-packed
+returns-clause-packed g c = text_is_packed c.args.head.unit c.args.head.pair.layer c.args.head.pair.datatype c.args.shots.now

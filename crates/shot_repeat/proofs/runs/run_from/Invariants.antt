@@ -2,7 +2,7 @@ use Rattle.std.proofs.Common.{◌≡◌, ◌+◌, ◌≤◌, ◌-◌, length, dr
 use Rattle.oas_lex.specs.ShotText.{fields_of}
 use Rattle.shot_reader.specs.Near.{AreNear}
 use Rattle.shot_repeat.specs.Packed.{most_of_record}
-use Rattle.shot_repeat.specs.Packing.{followers}
+use Rattle.shot_repeat.specs.Packer.{followers}
 use Rattle.shot_repeat.proofs.runs.run_from.Given as goal
 
 abbrev pub invariant-loop-next : goal.invariant-loop-next
