@@ -38,6 +38,7 @@ use Rattle.mdp_job.proofs.Taken.{fewer_shots}
 use Rattle.mdp_job.proofs.SplitCovers.{lists_keep}
 use Rattle.mdp_job.proofs.Ends.{Ends, input_rules}
 use Rattle.mdp_job.proofs.Written.{all_economic, all_summed, covered_then, written_said}
+use Rattle.mdp_job.proofs.PackFiles.{packed_shots}
 
 made_done : (tells : Bool) (b a : Content) (wr rr : Type 0) (input : Input) (s : Status)
     → IsMade tells b a wr rr input s → s ≡ answers.Done → IsDone tells b a input
@@ -96,7 +97,7 @@ same_data s t p q r =
     ∙ (ap (λ (o : Option Pair). let d : ShotData = record { unit = t.unit; pair = o; shots = s.shots } in d) q
     ∙ ap (λ (zs : List Trapezoid). let d : ShotData = record { unit = t.unit; pair = t.pair; shots = zs } in d) r)
 
-given_back : (bytes : List ℕ) (s : ShotData) → IsTextFile bytes s.unit s.pair s.shots → length bytes ≤ 268435456 → IsGivenBack s
+given_back : (bytes : List ℕ) (s : ShotData) → IsTextFile bytes s.unit s.pair s.shots → length bytes ≤ 268435456 → IsGivenBack s (packed_of s)
 given_back bytes s f short = record {
   taken = λ c name held. record {
     bytes = packed_of s;
@@ -143,7 +144,7 @@ module _ (tells : Bool) (b m a : Content) (o p q : Counts) (words : List (List �
   packs : Packs (run_of b a o q) words s
   packs file out is e =
       let x = done_is (packing_command out) (run_of b m o p) file s (answer_for tells (run_of b m o p) words s top h.table (Pack file out) is) e in
-      (x.0, x.1, packed_stands x.1.bytes x.0 x.1.form, h.done e ∙ x.2, given_back x.1.bytes x.0 x.1.form x.1.short)
+      (x.0, x.1, packed_shots x.0, packed_stands x.1.bytes x.0 x.1.form, h.done e ∙ x.2, given_back x.1.bytes x.0 x.1.form x.1.short)
 
   unpacks : Unpacks (run_of b a o q) words s
   unpacks file out is e =

@@ -13,7 +13,7 @@ use Rattle.mdp_job.specs.Runs.{run_of, IsEndedSo}
 use Rattle.mdp_job.specs.Denoted.{plan_of}
 use Rattle.mdp_job.specs.Outputs.{report_on, AreSpoiled}
 use Rattle.mdp_job.specs.Certificates.{exact_report}
-use Rattle.mdp_job.specs.ShotFiles.{ShotData, listed, packed_of, packed_said, plain_of, unpacked_said}
+use Rattle.mdp_job.specs.ShotFiles.{ShotData, PackedShots, listed, packed_of, packed_said, plain_of, unpacked_said}
 use Rattle.mdp_job.specs.Splitting.{IsPartSplit}
 use Rattle.mdp_job.specs.Densities.{AreTablesCutShort, IsCounted, IsDensityAnswer}
 use Rattle.mdp_job.specs.Filing.{IsHalfFiled}
@@ -33,6 +33,7 @@ use Rattle.mdp_job.proofs.Contents.{left_only}
 use Rattle.mdp_job.proofs.StripeFiles.{half_quiet}
 use Rattle.mdp_job.proofs.Written.{cut_spoiled, unsaid_spoiled}
 use Rattle.mdp_job.proofs.Ends.{Ends, input_rules, not_done, unsaid, left_then, said_then, part_said_then, reported_then, part_quiet, line_quiet}
+use Rattle.mdp_job.proofs.PackFiles.{packed_shots}
 
 -- ---- commands that write nothing
 
@@ -198,8 +199,9 @@ module _ (tells : Bool) (b m a : Content) (o p : Counts) (s : Status) (top : Opt
   answer_leaves q (Check layout deck) told n answer = check_keeps layout deck answer
   answer_leaves q (Shots file) told n answer = listing_keeps b m a o p file s x answer f
   answer_leaves q (Pack file out) told n answer =
-      file_leaves (packing_command out) file (λ d. IsPartMade (with_left b []) out (packed_of d) (unsaid b a)) n answer
-      (λ d half. half_leaves (with_left b []) out (packed_of d) (packed_said d) half)
+      file_leaves (packing_command out) file
+      (λ d. (p : PackedShots d) × IsPartMade (with_left b []) out p.text (unsaid b a)) n answer
+      (λ d half. (packed_shots d, half_leaves (with_left b []) out (packed_of d) (packed_said d) half))
   answer_leaves q (Unpack file out) told n answer =
       file_leaves (unpacking_command out) file (λ d. IsPartMade (with_left b []) out (plain_of d) (unsaid b a)) n answer
       (λ d half. half_leaves (with_left b []) out (plain_of d) (unpacked_said d) half)

@@ -6,6 +6,7 @@ pub mod Exactness
 pub mod CheckRows
 pub mod FileRows
 pub mod Taken
+pub mod PackFiles
 pub mod PlainFiles
 pub mod OneThing
 pub mod FieldLooks

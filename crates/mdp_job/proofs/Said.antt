@@ -37,6 +37,7 @@ use Rattle.mdp_job.proofs.Table.{top_of}
 use Rattle.mdp_job.proofs.Written.{all_summed, covered_then, cut_said, written_said}
 use Rattle.mdp_job.proofs.Ends.{Ends, input_rules, unsaid, made_quiet, left_said, part_made_said}
 use Rattle.mdp_job.proofs.Finals.{reports, lists, tabulates}
+use Rattle.mdp_job.proofs.PackFiles.{packed_shots}
 
 module _ (b m a : Content) (o p q : Counts) (words : List (List ℕ)) (s : Status) where
   record Middle : Type 0 where
@@ -218,7 +219,7 @@ module _ (tells : Bool) (b m a : Content) (o p q : Counts) (words : List (List �
   answer_middle x told later e n (Pack file out) is answer =
       file_middle b m a o p q words s (packing_command out) file later n answer
       (λ d which holds half. filed_middle b m a o p q words s (Pack file out) is which (with_left b []) out (packed_of d)
-      (packed_said d) x refl e (λ whole. (d, holds, whole, refl)) half)
+      (packed_said d) x refl e (λ whole. (d, holds, packed_shots d, whole, refl)) half)
   answer_middle x told later e n (Unpack file out) is answer =
       file_middle b m a o p q words s (unpacking_command out) file later n answer
       (λ d which holds half. filed_middle b m a o p q words s (Unpack file out) is which (with_left b []) out (plain_of d)

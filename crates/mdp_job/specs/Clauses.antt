@@ -1,6 +1,6 @@
 -- What `run` promises of each command: six records, whose fields are the rows of the table of answers, each about what was
 -- there before the command and after it, the words and the answer.
-use Rattle.std.specs.Prelude.{◌≡◌, ◌≢◌, ◌⊎◌, ◌↔◌, ℕ, pos, List, [], ◌++◌, take, ⊤}
+use Rattle.std.specs.Prelude.{◌≡◌, ◌≢◌, ◌⊎◌, ◌↔◌, ℕ, pos, List, [], ◌++◌, length, take, ⊤}
 use Rattle.half_grid.specs.declared.plane.Tile.{Tile}
 use Rattle.depot.specs.Content.{Content, IsNotThere, IsLongerThan, ChangesLeftOnly, with_left, with_file, with_said, IsPartMade}
 use Rattle.depot.specs.Counts.{Counts, NeverFall, Rose}
@@ -29,7 +29,7 @@ use Rattle.mdp_job.specs.Runs.{Run, ReadRose, WriteRose, RefusedRose, ComesExact
 use Rattle.mdp_job.specs.Headline.{AreCovered, AreExact, Covers, Accepts}
 use Rattle.mdp_job.specs.Outputs.{AreEconomic, IsReported, AreSummed, AreSpoiled, report_on}
 use Rattle.mdp_job.specs.Certificates.{IsOutputRefusedAt, HasNoFile, IsFileAt, AreExactSums, exact_report, IsExactReported}
-use Rattle.mdp_job.specs.ShotFiles.{ShotData, HoldsShots, HoldsPacked, HoldsFault, HoldsPackFault, listed, packed_of, packed_said, plain_of, unpacked_said, IsGivenBack}
+use Rattle.mdp_job.specs.ShotFiles.{ShotData, HoldsShots, HoldsPacked, HoldsFault, HoldsPackFault, PackedShots, listed, packed_line, plain_of, unpacked_said, IsGivenBack}
 use Rattle.mdp_job.specs.Splitting.{HoldsFields, HoldsWide, HoldsManyStripes, AreAllMade, IsSplitWhole, IsPartSplit}
 use Rattle.mdp_job.specs.Keeping.{AreKept}
 use Rattle.mdp_job.specs.Densities.{IsDensityText, AreTablesSaid}
@@ -122,8 +122,8 @@ Generates r words result =
 abbrev pub Packs : Run → List (List ℕ) → Status → Type 0
 Packs r words result =
     (file out : List ℕ) → IsPack words file out → result ≡ answers.Done
-    → (s : ShotData) × HoldsShots r.before file s × IsPackedText (packed_of s) s.unit s.pair s.shots
-    × IsFiled (with_left r.before []) r.after out (packed_of s) (packed_said s) × IsGivenBack s
+    → (s : ShotData) × HoldsShots r.before file s × (p : PackedShots s) × IsPackedText p.text s.unit s.pair s.shots
+    × IsFiled (with_left r.before []) r.after out p.text (packed_line (length s.shots) p.records) × IsGivenBack s p.text
 
 -- OUT holds the plain text of the shots for which FILE stands, the line was said, and nothing else has changed but what is
 -- left to be read.
@@ -341,7 +341,8 @@ IsTextBy r (Check layout deck) text =
     × (sums : List Sums) × AreExactSums r.before input sums × (text ≡ exact_report input sums)
 IsTextBy r (Shots file) text = (s : ShotData) × HoldsShots r.before file s × (text ≡ listed s)
 IsTextBy r (Pack file out) text =
-    (s : ShotData) × HoldsShots r.before file s × ((quiet r).after ≡ with_file (with_left r.before []) out (packed_of s)) × (text ≡ packed_said s)
+    (s : ShotData) × HoldsShots r.before file s × (p : PackedShots s) × ((quiet r).after ≡ with_file (with_left r.before []) out p.text)
+    × (text ≡ packed_line (length s.shots) p.records)
 IsTextBy r (Unpack file out) text =
     (s : ShotData) × HoldsPacked r.before file s × ((quiet r).after ≡ with_file (with_left r.before []) out (plain_of s)) × (text ≡ unpacked_said s)
 IsTextBy r (Split size file out) text =
@@ -456,7 +457,7 @@ IsLeftBy r (Check layout deck) = ChangesLeftOnly r.before (quiet r).after
 IsLeftBy r (Shots file) = ChangesLeftOnly r.before (quiet r).after
 IsLeftBy r (Pack file out) =
     ChangesLeftOnly r.before (quiet r).after
-    ⊎ ((s : ShotData) × HoldsShots r.before file s × IsPartMade (with_left r.before []) out (packed_of s) (quiet r).after)
+    ⊎ ((s : ShotData) × HoldsShots r.before file s × (p : PackedShots s) × IsPartMade (with_left r.before []) out p.text (quiet r).after)
 IsLeftBy r (Unpack file out) =
     ChangesLeftOnly r.before (quiet r).after
     ⊎ ((s : ShotData) × HoldsPacked r.before file s × IsPartMade (with_left r.before []) out (plain_of s) (quiet r).after)

@@ -9,6 +9,7 @@ use Rattle.shot_reader.specs.declared.refusing.ShotBad.{ShotBad}
 use Rattle.shot_listing.specs.Listing.{listing}
 use Rattle.shot_repeat.specs.Packed.{IsPackedFile}
 use Rattle.shot_repeat.specs.Packer.{packed_text, packed_records}
+use Rattle.shot_repeat.specs.Packing.{IsPackedInto}
 use Rattle.shot_repeat.specs.Refusals.{IsFirstPackFault}
 use Rattle.shot_repeat.specs.declared.refusing.PackBad.{PackBad}
 pub use Rattle.file_check.specs.Files.{ShotData}
@@ -66,10 +67,13 @@ abbrev pub pair_or : Option Pair → Pair
 pair_or None = record { layer = 0; datatype = 0 }
 pair_or (Some pair) = pair
 
--- the packed text, and the plain one
-abbrev pub packed_of : ShotData → List ℕ
-packed_of s = packed_text s.unit (pair_or s.pair).layer (pair_or s.pair).datatype s.shots
+-- the packed text, and how many records it has
+pub record PackedShots (s : ShotData) : Type 0 where
+  pub records : ℕ
+  pub text : List ℕ
+  pub is : IsPackedInto s.unit (pair_or s.pair).layer (pair_or s.pair).datatype s.shots records text
 
+-- the plain text
 abbrev pub plain_of : ShotData → List ℕ
 plain_of s = shot_text s.unit (pair_or s.pair).layer (pair_or s.pair).datatype s.shots
 
@@ -77,7 +81,10 @@ plain_of s = shot_text s.unit (pair_or s.pair).layer (pair_or s.pair).datatype s
 abbrev pub packed_line : (shots records : ℕ) → List ℕ
 packed_line shots records = codes "packed " ++ decimal shots ++ codes " shots in " ++ decimal records ++ codes " records\n"
 
--- the line of `pack`
+-- the packed text and the line of `pack`, as they are worked out: the text is that of `PackedShots`, and the only one
+abbrev pub packed_of : ShotData → List ℕ
+packed_of s = packed_text s.unit (pair_or s.pair).layer (pair_or s.pair).datatype s.shots
+
 abbrev pub packed_said : ShotData → List ℕ
 packed_said s = packed_line (length s.shots) (length (packed_records (pair_or s.pair).layer (pair_or s.pair).datatype s.shots))
 
@@ -89,8 +96,8 @@ unpacked_line shots = codes "unpacked " ++ decimal shots ++ codes " shots\n"
 abbrev pub unpacked_said : ShotData → List ℕ
 unpacked_said s = unpacked_line (length s.shots)
 
--- Where a name holds the packed text, in any depot, it is a packed shot file within the limit, of the same number, pair and
+-- Where a name holds this packed text, in any depot, it is a packed shot file within the limit, of the same number, pair and
 -- shots, and of no others.
-pub record IsGivenBack (s : ShotData) : Type 0 where
-  pub taken : (c : Content) (name : List ℕ) → held_as c name ≡ Some (packed_of s) → HoldsPacked c name s
-  pub alone : (c : Content) (name : List ℕ) (other : ShotData) → held_as c name ≡ Some (packed_of s) → HoldsPacked c name other → other ≡ s
+pub record IsGivenBack (s : ShotData) (text : List ℕ) : Type 0 where
+  pub taken : (c : Content) (name : List ℕ) → held_as c name ≡ Some text → HoldsPacked c name s
+  pub alone : (c : Content) (name : List ℕ) (other : ShotData) → held_as c name ≡ Some text → HoldsPacked c name other → other ≡ s

@@ -4,7 +4,7 @@
 -- are written in the first record only. Width, height, x and y are written exactly where they differ from the record
 -- before; in the first record width and height are written, and x and y where they aren't 0.
 use Rattle.std.specs.Prelude.{ℕ, ◌≡◌, ◌⊎◌, ◌-◌, ◌<◌, ◌≤◌, ℤ, pos, nat_eq, List, [], ◌∷◌, ◌++◌}
-use Rattle.std.specs.Prelude.{slice_get, map, drop, flat_map, Option, Some, None, if◌then◌else◌}
+use Rattle.std.specs.Prelude.{slice_get, length, map, drop, flat_map, Option, Some, None, if◌then◌else◌}
 use Rattle.std.specs.Ordering.{int_eq}
 use Rattle.half_grid.specs.Trapezoids.{Trapezoid}
 use Rattle.half_grid.specs.declared.plane.Point.{Point}
@@ -84,3 +84,9 @@ pub record IsPackingOf (unit layer datatype : ℕ) (shots : List Trapezoid)
     (records : List PackRecord) (text : List ℕ) : Type 0 where
   pub packed : ArePacked None (map (fields_of layer datatype) shots) records
   pub is : text ≡ head unit ++ flat_map record_text records ++ end
+
+-- the packed text of these, and how many records it has
+pub record IsPackedInto (unit layer datatype : ℕ) (shots : List Trapezoid) (count : ℕ) (text : List ℕ) : Type 0 where
+  pub records : List PackRecord
+  pub packing : IsPackingOf unit layer datatype shots records text
+  pub number : count ≡ length records
