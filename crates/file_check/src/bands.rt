@@ -9,8 +9,10 @@ ghost use Rattle.file_check.specs.Fronts.{IsJudgedTo};
 ghost use Rattle.deck_plan.specs.Plans.{planned_area};
 
 use crate::front::{Front, fault_in};
+use crate::progress::Whole;
 use band_areas::BandAreas;
 use deck_plan::Plan;
+use depot::Depot;
 use geo_stream::NoMemory;
 use half_grid::Window;
 use shot_checker::Fault;
@@ -29,13 +31,15 @@ fn rows_above(rows: Window, band: Window) -> Window
 
 /// The first fault of what the shots cover of an output's area, where it is in the band, which begins where the last
 /// one ended. The area is computed strip by strip, up to the fault, and each shot is looked at in the strips that it
-/// meets.
-pub(crate) fn fault_of_band(
+/// meets. After each strip the depot is told how far the check is of all that is compared.
+pub(crate) fn fault_of_band<D: Depot>(
     alloc: Global,
+    depot: &mut D,
     plan: &Plan,
     output: usize,
     areas: &mut BandAreas,
     front: &mut Front,
+    whole: &Whole,
     band: Window,
 ) -> Result<Option<Fault>, NoMemory>
     requires output { output < length plan.now.deck.outputs }
@@ -48,6 +52,8 @@ pub(crate) fn fault_of_band(
         IsFirstWrongTile (planned_area plan.now output) shots fault.tile fault.count fault.wanted)) }
     ensures none { (shots : List Trapezoid) → IsJudgedTo plan.now output shots band.y0 front.old
         → IfOk result (λ answer. IfNone answer (IsJudgedTo plan.now output shots band.y1 front.new)) }
+    ensures content { D.content depot.new ≡ D.content depot.old }
+    ensures counts { D.counts depot.new ≡ D.counts depot.old }
 {
     let mut left = band;
     while left.y0() < left.y1() {
@@ -56,6 +62,7 @@ pub(crate) fn fault_of_band(
             return Ok(Some(fault));
         }
         left = rows_above(part.rows, left);
+        depot.note(whole.up_to(left.y0()));
     }
     Ok(None)
 }

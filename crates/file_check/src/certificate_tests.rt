@@ -6,6 +6,7 @@ use crate::check_output;
 use cell_tree::resolve;
 use deck_plan::Plan;
 use deck_text::read_deck;
+use depot::MemDepot;
 use geo_stream::List;
 use half_grid::{Line, Point, Side, Tile, Trap};
 use layout_model::{Cell, Counts, KeptShape, Layout, Name, Offsets, Pair, Shapes};
@@ -81,7 +82,8 @@ fn verdict_on(rt: &impl Abort, alloc: Global, shots: &[Trap]) -> Verdict {
     let tree = resolve(alloc, layout(rt, alloc), &deck.top).expect(rt, "a tree");
     let plan = Plan::new(alloc, &deck, &tree).expect(rt, "memory");
     assert!(rt; !deck.outputs.as_slice().is_empty());
-    check_output(alloc, &plan, 0, shots).expect(rt, "memory")
+    let mut depot = MemDepot::new(alloc);
+    check_output(alloc, &mut depot, &plan, 0, shots).expect(rt, "memory")
 }
 
 fn trap(rt: &impl Abort, y0: i64, y1: i64, left: Line, right: Line) -> Trap {

@@ -56,12 +56,13 @@ fn check_file<D: Depot>(
         Ok(bytes) => bytes,
         Err(refused) => return Err(refused_file(place, refused)),
     };
-    judge(alloc, plan, place, bytes.as_slice())
+    judge(alloc, depot, plan, place, bytes.as_slice())
 }
 
 /// Reads the file of each output of the deck in its order and judges it, up to the first that isn't exact. It answers
 /// the number of shots and of triangles of each. Each file is judged wholly before the next is read: first whether it
-/// is a shot file, then its head, then the limits of its shots, then what they cover.
+/// is a shot file, then its head, then the limits of its shots, then what they cover. The depot is told how many rows of
+/// the output are compared.
 ///
 /// But for what is left to be read, the content of the depot is as before, whatever the answer. The clauses on content
 /// hold over a depot that tells it. The others hold over every depot.

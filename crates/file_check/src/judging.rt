@@ -11,6 +11,7 @@ use crate::certificates::check_output;
 use crate::faults::{CheckBad, CheckFault};
 use deck_plan::Plan;
 use deck_text::Output;
+use depot::Depot;
 use geo_stream::Refusal;
 use half_grid::Trap;
 use shot_checker::Verdict;
@@ -60,9 +61,11 @@ fn refused(place: usize, fault: CheckFault) -> Refusal<CheckBad>
     Refusal::Fault(CheckBad::Refused(place, fault))
 }
 
-// Judges the shots of a file whose head is right. A shot that doesn't fit is told even where memory is wanting.
-fn judge_shots(
+// Judges the shots of a file whose head is right, and tells the depot how far that is. A shot that doesn't fit is told even
+// where memory is wanting.
+fn judge_shots<D: Depot>(
     alloc: Global,
+    depot: &mut D,
     plan: &Plan,
     place: usize,
     shots: &[Trap],
@@ -73,8 +76,10 @@ fn judge_shots(
     ensures exact { IfOk result (λ _. IsCertified plan.now place shots.now) }
     ensures refused { IfFault result (IsShotsFault plan.now place shots.now) }
     ensures memory { result ≡ Err NoMemory → All (Fits plan.now.deck.limits) shots.now }
+    ensures content { D.content depot.new ≡ D.content depot.old }
+    ensures counts { D.counts depot.new ≡ D.counts depot.old }
 {
-    let verdict = check_output(alloc, plan, place, shots)?;
+    let verdict = check_output(alloc, depot, plan, place, shots)?;
     match verdict {
         Verdict::Exact => Ok(sums_of(shots)),
         Verdict::Miscovered(tile, count, wanted) => {
@@ -85,8 +90,9 @@ fn judge_shots(
 }
 
 // Judges the bytes of a file as those of this output.
-fn judge_text(
+fn judge_text<D: Depot>(
     alloc: Global,
+    depot: &mut D,
     plan: &Plan,
     place: usize,
     output: &Output,
@@ -96,6 +102,8 @@ fn judge_text(
     requires short { length bytes.now ≤ 268435456 }
     ensures ok { IfOk result (IsExactText plan.now place output.now bytes.now) }
     ensures refused { IfFault result (IsBytesFault plan.now place output.now bytes.now) }
+    ensures content { D.content depot.new ≡ D.content depot.old }
+    ensures counts { D.counts depot.new ≡ D.counts depot.old }
 {
     let file = match read_shots(alloc, bytes) {
         Ok(file) => file,
@@ -105,12 +113,13 @@ fn judge_text(
     if !has_head(&file, plan, output) {
         return Err(refused(place, CheckFault::Head));
     }
-    judge_shots(alloc, plan, place, file.shots.as_slice())
+    judge_shots(alloc, depot, plan, place, file.shots.as_slice())
 }
 
-/// Judges the bytes of the file of an output.
-pub(crate) fn judge(
+/// Judges the bytes of the file of an output. The depot is told how far that is, and is as before.
+pub(crate) fn judge<D: Depot>(
     alloc: Global,
+    depot: &mut D,
     plan: &Plan,
     place: usize,
     bytes: &[u8],
@@ -119,7 +128,9 @@ pub(crate) fn judge(
     requires short { length bytes.now ≤ 268435456 }
     ensures ok { IfOk result (λ sums. OfOutput plan.now place (λ output. IsExactText plan.now place output bytes.now sums)) }
     ensures refused { IfFault result (λ bad. OfOutput plan.now place (λ output. IsBytesFault plan.now place output bytes.now bad)) }
+    ensures content { D.content depot.new ≡ D.content depot.old }
+    ensures counts { D.counts depot.new ≡ D.counts depot.old }
 {
     let output = &plan.deck().outputs.as_slice()[place];
-    judge_text(alloc, plan, place, output, bytes)
+    judge_text(alloc, depot, plan, place, output, bytes)
 }

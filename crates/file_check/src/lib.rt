@@ -13,6 +13,7 @@ mod faults;
 mod front;
 mod judging;
 mod outside;
+mod progress;
 #[cfg(test)]
 mod tests;
 

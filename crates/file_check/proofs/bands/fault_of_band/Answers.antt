@@ -6,7 +6,7 @@ use Rattle.file_check.proofs.Covers.{is_rest, fewer_rows, band_fault, band_none}
 use Rattle.file_check.proofs.bands.fault_of_band.Goals as goal
 
 pub loop-alloc-init : goal.loop-alloc-init
-loop-alloc-init c =
+loop-alloc-init g c =
     let some = c.requires.band.is_band.has_rows in
     record {
       areas = c.requires.areas;
@@ -14,10 +14,12 @@ loop-alloc-init c =
       low = omega (arith, ints);
       high = omega (arith, ints, some);
       top = refl;
+      content = refl;
+      counts = refl;
     }
 
 pub next_part-requires-clause-left : goal.next_part-requires-clause-left
-next_part-requires-clause-left c =
+next_part-requires-clause-left g c =
     let i = c.loop-alloc.invariant in
     let low = c.y0.ensures.value in
     let high = c.y1.ensures.value in
@@ -25,10 +27,10 @@ next_part-requires-clause-left c =
     is_rest c.args.band c.loop-alloc.left c.requires.band i.low (omega (arith, ints, low, high, test)) i.top
 
 pub fault_in-requires : goal.fault_in-requires
-fault_in-requires c = (c.loop-alloc.invariant.judged c.requires.judged.0 c.requires.judged.1).passed.ascend
+fault_in-requires g c = (c.loop-alloc.invariant.judged c.requires.judged.0 c.requires.judged.1).passed.ascend
 
 pub returns-in-Some-clause-fault : goal.returns-in-Some-clause-fault
-returns-in-Some-clause-fault c = λ shots at.
+returns-in-Some-clause-fault g c = λ shots at.
     let p = c.args.plan.now in
     let k = c.args.output in
     let here = subst (λ y. IsJudgedTo p k shots y c.loop-alloc.front) (sym c.in_ok-part.ensures.from) (c.loop-alloc.invariant.judged shots at) in
@@ -37,7 +39,7 @@ returns-in-Some-clause-fault c = λ shots at.
     c.in-Some.fault.tile c.in-Some.fault.count c.in-Some.fault.wanted fault
 
 pub loop-alloc-smaller : goal.loop-alloc-smaller
-loop-alloc-smaller c =
+loop-alloc-smaller g c =
     let from = c.in_ok-part.ensures.from in
     let some = c.in_ok-part.ensures.some in
     let to = c.in_ok-part.ensures.to in
@@ -47,7 +49,7 @@ loop-alloc-smaller c =
     (omega (arith, ints, from, some, bottom, top)) (omega (arith, ints, from, some, to))
 
 pub loop-alloc-preserved : goal.loop-alloc-preserved
-loop-alloc-preserved c =
+loop-alloc-preserved g c =
     let p = c.args.plan.now in
     let k = c.args.output in
     let i = c.loop-alloc.invariant in
@@ -71,10 +73,12 @@ loop-alloc-preserved c =
       low = omega (arith, ints, low, from, some, bottom);
       high = omega (arith, ints, to, bottom, top);
       top = top ∙ i.top;
+      content = c.note.ensures.content ∙ i.content;
+      counts = c.note.ensures.counts ∙ i.counts;
     }
 
 pub returns-clause-none : goal.returns-clause-none
-returns-clause-none c = λ shots at.
+returns-clause-none g c = λ shots at.
     let i = c.loop-alloc.invariant in
     let low = c.y0.ensures.value in
     let high = c.y1.ensures.value in

@@ -9,7 +9,7 @@ use Rattle.file_check.proofs.Answering.{both_ok, bytes_fault, exact_text}
 use Rattle.file_check.proofs.judging.judge_text.Goals as goal
 
 pub returns-then-not-has_head-clause-refused : goal.returns-then-not-has_head-clause-refused
-returns-then-not-has_head-clause-refused c = rw c.refused-then-not-has_head.ensures (
+returns-then-not-has_head-clause-refused g c = rw c.refused-then-not-has_head.ensures (
   refl,
   record {
     s = data_of c.in-Ok.file;
@@ -20,17 +20,17 @@ returns-then-not-has_head-clause-refused c = rw c.refused-then-not-has_head.ensu
 )
 
 pub judge_shots-requires-clause-few : goal.judge_shots-requires-clause-few
-judge_shots-requires-clause-few c = rw c.as_slice.ensures (few_shots c.args.bytes.now _ _ _ c.in-Ok.ensures.found c.requires.short)
+judge_shots-requires-clause-few g c = rw c.as_slice.ensures (few_shots c.args.bytes.now _ _ _ c.in-Ok.ensures.found c.requires.short)
 
 pub returns-clause-ok : goal.returns-clause-ok
-returns-clause-ok c =
+returns-clause-ok g c =
     let head = c.if-not-has_head.ensures.0 refl in
     both_ok c.judge_shots.result _ _ (IsExactText c.args.plan.now c.args.place c.args.output.now c.args.bytes.now)
     (exact_text c.args.plan.now c.args.place c.args.output.now c.args.bytes.now c.in-Ok.file c.in-Ok.ensures.found head)
     (rw c.as_slice.ensures at c.judge_shots.ensures.ok) (rw c.as_slice.ensures at c.judge_shots.ensures.exact)
 
 pub returns-clause-refused : goal.returns-clause-refused
-returns-clause-refused c =
+returns-clause-refused g c =
     let head = c.if-not-has_head.ensures.0 refl in
     let of_bytes = IsBytesFault c.args.plan.now c.args.place c.args.output.now c.args.bytes.now in
     IfErr-weaker c.judge_shots.result _ (IsForFault of_bytes)
