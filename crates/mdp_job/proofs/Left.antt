@@ -13,7 +13,7 @@ use Rattle.mdp_job.specs.Runs.{run_of, IsEndedSo}
 use Rattle.mdp_job.specs.Denoted.{plan_of}
 use Rattle.mdp_job.specs.Outputs.{report_on, AreSpoiled}
 use Rattle.mdp_job.specs.Certificates.{exact_report}
-use Rattle.mdp_job.specs.ShotFiles.{ShotData, PackedShots, listed, packed_of, packed_said, plain_of, unpacked_said}
+use Rattle.mdp_job.specs.ShotFiles.{ShotData, HoldsShots, listed, packed_of, packed_said, plain_of, unpacked_said}
 use Rattle.mdp_job.specs.Splitting.{IsPartSplit}
 use Rattle.mdp_job.specs.Densities.{AreTablesCutShort, IsCounted, IsDensityAnswer}
 use Rattle.mdp_job.specs.Filing.{IsHalfFiled}
@@ -193,15 +193,21 @@ module _ (tells : Bool) (b m a : Content) (o p : Counts) (s : Status) (top : Opt
   generated_leaves n file not (inr (inl (g, rose, half))) = half_leaves b file (generated n) (generated_line n) half
   generated_leaves n file not (inr (inr (g, rose, half))) = half_leaves b file (generated n) (generated_line n) half
 
+  packed_leaves : (q : Counts) (file out : List ℕ)
+      → ChangesLeftOnly b (unsaid b a) ⊎ ((d : ShotData) × HoldsShots b file d × IsPartMade (with_left b []) out (packed_of d) (unsaid b a))
+      → IsLeftBy (run_of b a o q) (Pack file out)
+  packed_leaves q file out (inl same) = inl same
+  packed_leaves q file out (inr (d, holds, part)) = inr (d, holds, packed_shots d, part)
+
   answer_leaves : (q : Counts) (command : Command) → IsTrue tells → s ≢ answers.Done
       → IsAnswerOf tells (run_of b m o p) command s top → IsLeftBy (run_of b a o q) command
   answer_leaves q (Fracture layout deck) told n answer = fracture_leaves layout deck told n answer
   answer_leaves q (Check layout deck) told n answer = check_keeps layout deck answer
   answer_leaves q (Shots file) told n answer = listing_keeps b m a o p file s x answer f
   answer_leaves q (Pack file out) told n answer =
-      file_leaves (packing_command out) file
-      (λ d. (p : PackedShots d) × IsPartMade (with_left b []) out p.text (unsaid b a)) n answer
-      (λ d half. (packed_shots d, half_leaves (with_left b []) out (packed_of d) (packed_said d) half))
+      packed_leaves q file out
+      (file_leaves (packing_command out) file (λ d. IsPartMade (with_left b []) out (packed_of d) (unsaid b a)) n answer
+      (λ d half. half_leaves (with_left b []) out (packed_of d) (packed_said d) half))
   answer_leaves q (Unpack file out) told n answer =
       file_leaves (unpacking_command out) file (λ d. IsPartMade (with_left b []) out (plain_of d) (unsaid b a)) n answer
       (λ d half. half_leaves (with_left b []) out (plain_of d) (unpacked_said d) half)
