@@ -255,8 +255,14 @@ is_shown() {
         grep -qF "${begin}covering square.oas: 0 of 20 rows, 0:00" shown.txt || return 1
     # what stays is after the last time that the row was wiped
     sed 's/.*\r\o033\[K//' shown.txt | tail -n 2 | tr -d '\r' >stays.txt
-    grep -qx 'square.oas: 1 shots, 0.000 um2, least width 0.010 um, least height 0.010 um, [0-9]* s' stays.txt &&
+    grep -qx 'square.oas: 1 shots, 0.000 um2, least width 0.010 um, least height 0.010 um, 0 thinner than a tenth of the median, [0-9]* s' stays.txt &&
         grep -qx 'reading [0-9]* s, in all [0-9]* s\(, [0-9]* MB of memory at most\)\?' stays.txt
+}
+
+# The check of the example on a pseudo terminal: how many rows of its output are compared, and how many shots its file has.
+rows_are_shown() {
+    env -u COLUMNS script -qec "$program check square.gds square.deck >said.txt" /dev/null </dev/null >shown.txt || return 1
+    grep -qF $'\r\033[K\033[?7lchecking square.oas: 0 of 20 rows, 0:00, 1 shots, ' shown.txt
 }
 
 # no_longer_than COLUMNS: where the environment tells that number of columns, each line is shorter and ends with a word
@@ -277,6 +283,7 @@ if [ -c /dev/full ]; then
 fi
 if script -qec true /dev/null </dev/null >/dev/null 2>&1; then
     check 'progress is shown on a terminal and removed' is_shown
+    check 'the rows that are compared are shown' rows_are_shown
     check 'no line is longer than a narrow terminal' no_longer_than 20
 else
     echo 'skipped: a pseudo terminal, since there is no script'

@@ -24,6 +24,7 @@ pub(crate) struct Entry {
 /// The files that were read and written, in their order, and when that began. Seconds are those of one clock.
 #[derive(Drop)]
 pub(crate) struct Ledger {
+    alloc: Global,
     files: Vec<Entry>,
     from: u64,
     is_lost: bool,
@@ -42,6 +43,11 @@ impl Entry {
         line.put(self.name.bytes());
         line.put(b": ");
         put_sums(&mut line, &sums);
+        if let Some(thin) = self.tally.thin() {
+            line.put(b", ");
+            put_number(&mut line, u128::from(thin));
+            line.put(b" thinner than a tenth of the median");
+        }
         line.put(b", ");
         put_number(&mut line, u128::from(self.seconds()));
         line.put(b" s");
@@ -55,6 +61,7 @@ impl Ledger {
         ensures { result.from ≡ second }
     {
         Ledger {
+            alloc,
             files: Vec::new(alloc),
             from: second,
             is_lost: false,
@@ -89,7 +96,7 @@ impl Ledger {
             phase,
             from: second,
             to: second,
-            tally: Tally::new(),
+            tally: Tally::new(self.alloc),
         };
         self.is_lost = self.files.push(entry).is_err();
     }

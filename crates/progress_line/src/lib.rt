@@ -17,6 +17,7 @@ mod tally;
 #[cfg(test)]
 mod tests;
 mod texts;
+mod thick;
 mod times;
 mod width;
 

@@ -3,6 +3,9 @@
 //! The bytes are looked at as they go by. Those of any other file stop it at the first that a shot file hasn't there.
 ghost use Rattle.std.specs.Prelude.{◌≡◌};
 
+use crate::thick::Thicknesses;
+use std::alloc::Global;
+
 /// The bytes of a shot file before the number of half units a micrometre.
 const HEAD: &[u8] = b"%SEMI-OASIS\r\n\x01\x031.0\x00";
 
@@ -79,13 +82,14 @@ pub(crate) struct Sums {
 }
 
 /// The shots of a file whose bytes go by.
-#[derive(Clone, Copy)]
+#[derive(Drop)]
 pub(crate) struct Tally {
     step: Step,
     value: u64,
     factor: u64,
     sizes: Sizes,
     sums: Sums,
+    thicknesses: Thicknesses,
 }
 
 // Whether the text has this byte at that place.
@@ -128,6 +132,12 @@ impl Sizes {
             lower.saturating_add(wide.unsigned_abs())
         };
         (lower, upper)
+    }
+
+    // Twice the lesser of the height and the mean of both sides.
+    fn double_thickness(&self) -> u64 {
+        let (lower, upper) = self.sides();
+        self.height.saturating_mul(2).min(lower.saturating_add(upper))
     }
 
     fn has_left_move(&self) -> bool {
@@ -179,8 +189,8 @@ impl Sums {
 }
 
 impl Tally {
-    /// No byte has gone by.
-    pub(crate) fn new() -> Tally {
+    /// No byte has gone by. It takes no memory.
+    pub(crate) fn new(alloc: Global) -> Tally {
         Tally {
             step: Step::Head(0),
             value: 0,
@@ -199,7 +209,13 @@ impl Tally {
                 least_width: u64::MAX,
                 least_height: u64::MAX,
             },
+            thicknesses: Thicknesses::new(alloc),
         }
+    }
+
+    /// How many of the shots are thinner than a tenth of the median. None where that isn't known.
+    pub(crate) fn thin(&self) -> Option<u64> {
+        self.thicknesses.thin(self.sums.shots)
     }
 
     /// The sums of the shots. None where the bytes aren't those of a whole plain shot file.
@@ -266,6 +282,7 @@ impl Tally {
             Some(next) => Step::Number(next),
             None => {
                 self.sums.add(&self.sizes);
+                self.thicknesses.add(self.sizes.double_thickness());
                 Step::Id
             }
         }

@@ -88,7 +88,8 @@ fn two_shots_are_summed(rt: HostRuntime) -> Result<(), Fail> {
     ledger.end(110);
     let file = ledger.files().first().ok_or("no file")?;
     let line = file.line().ok_or("no shot file")?;
-    let told = b"metal.oas: 2 shots, 0.001 um2, least width 0.016 um, least height 0.008 um, 7 s";
+    let told = b"metal.oas: 2 shots, 0.001 um2, least width 0.016 um, least height 0.008 um, \
+        0 thinner than a tenth of the median, 7 s";
     assert_eq!(rt; line.bytes(), told.as_slice());
     assert_eq!(rt;
         ledger.line(112, Some(20480)).bytes(),
