@@ -2,3 +2,4 @@
 pub mod Pace
 pub mod Text
 pub mod Frames
+pub mod Screens

@@ -1,6 +1,10 @@
 //! A depot that shows what goes through another one.
-ghost use Rattle.std.specs.Prelude.{◌≡◌, false, IfSome, length, nat_lt, if◌then◌else◌};
-ghost use Rattle.depot.specs.declared.outside.Phase.TheVariants.{Reading, Judging, Writing};
+ghost use Rattle.std.specs.Prelude.{◌≡◌, ◌⊎◌, ◌<◌, ◌≤◌, [], false, length, take};
+ghost use Rattle.std.specs.Prelude.{IsTrue, IsSome, IfOk, OnOk, OnErr, IsErrOf};
+ghost use Rattle.depot.specs.Content.{IsNotThere, with_left, StartsReading, TakesFirst, begun, IsNotBegun, with_written, with_said};
+ghost use Rattle.depot.specs.Counting.{CountsReads, CountsStarts, CountsWrites};
+ghost use Rattle.depot.specs.declared.outside.Phase.TheVariants.{Reading, Writing};
+ghost use Rattle.progress_line.specs.Screens.{StaysWith, IsBegun, IsAhead, IsReadOn, IsNoted};
 
 use crate::screen::Screen;
 use depot::{Depot, DepotBad, Phase, Progress};
@@ -37,7 +41,8 @@ impl<D: Depot + Drop, R: Clock + Files + Drop, W: Write + Drop> ShownDepot<D, R,
     /// Takes the line off the screen. The depot is as before.
     pub fn wipe(&mut self)
         ensures depot { self.new.depot ≡ self.old.depot }
-        ensures screen { IfSome self.new.screen (λ s. s.is_shown ≡ false) }
+        ensures screen { StaysWith self.old.screen self.new.screen
+            (λ old new. (new.is_shown ≡ false) × (new.file ≡ old.file)) }
     {
         if let Some(screen) = &mut self.screen {
             screen.wipe();
@@ -56,7 +61,8 @@ impl<D: Depot + Drop, R: Clock + Files + Drop, W: Write + Drop> ShownDepot<D, R,
     // Says to the screen that these bytes were read. Where there are none, the file is at its end, and is judged.
     fn has_read(&mut self, bytes: &[u8])
         ensures depot { self.new.depot ≡ self.old.depot }
-        ensures phase { IfSome self.new.screen (λ s. s.file.phase ≡ (if nat_lt 0 (length bytes.now) then Reading else Judging)) }
+        ensures screen { StaysWith self.old.screen self.new.screen
+            (λ old new. IsReadOn (length bytes.now) old.file new.file) }
     {
         let Some(screen) = &mut self.screen else {
             return;
@@ -71,7 +77,8 @@ impl<D: Depot + Drop, R: Clock + Files + Drop, W: Write + Drop> ShownDepot<D, R,
     // Says to the screen that these bytes were written.
     fn has_written(&mut self, bytes: &[u8])
         ensures depot { self.new.depot ≡ self.old.depot }
-        ensures phase { IfSome self.new.screen (λ s. s.file.phase ≡ Writing) }
+        ensures screen { StaysWith self.old.screen self.new.screen
+            (λ old new. IsAhead Writing (length bytes.now) old.file new.file) }
     {
         if let Some(screen) = &mut self.screen {
             screen.advance(Phase::Writing, bytes);
@@ -86,40 +93,84 @@ impl<D: Depot + Drop, R: Clock + Files + Drop, W: Write + Drop> Depot for ShownD
 
     ghost counts = { λ s. D.counts s.depot };
 
-    fn start_read(&mut self, name: &str) -> Result<(), DepotBad> {
+    fn start_read(&mut self, name: &str) -> Result<(), DepotBad>
+        ensures ok { OnOk result (IsTrue D.tells → StartsReading (D.content self.old.depot) name.now (D.content self.new.depot)) }
+        ensures refused { OnErr result (IsTrue D.tells → D.content self.new.depot ≡ with_left (D.content self.old.depot) []) }
+        ensures missing { IsTrue D.tells → IsNotThere (D.content self.old.depot) name.now
+            → IsErrOf result DepotBad.Failed ⊎ IsErrOf result DepotBad.NoMemory }
+        ensures counts { CountsStarts (D.counts self.old.depot) (D.counts self.new.depot)
+            (IsTrue D.tells × IsNotThere (D.content self.old.depot) name.now) result }
+        ensures screen { StaysWith self.old.screen self.new.screen (λ old new. IsBegun Reading name.now new.file) }
+    {
         if let Some(screen) = &mut self.screen {
             screen.start_read(name);
         }
         self.depot.start_read(name)
     }
 
-    fn read(&mut self, buf: &mut [u8]) -> Result<usize, DepotBad> {
+    fn read(&mut self, buf: &mut [u8]) -> Result<usize, DepotBad>
+        ensures bound { IfOk result (λ n. n ≤ length buf.old) }
+        ensures ok { IfOk result (λ n. IsTrue D.tells → TakesFirst (D.content self.old.depot) n buf.old buf.new (D.content self.new.depot)) }
+        ensures end { IfOk result (λ n. IsTrue D.tells → n ≡ 0 → 0 < length buf.old → (D.content self.old.depot).left ≡ []) }
+        ensures refused { OnErr result (IsTrue D.tells → (D.content self.new.depot ≡ D.content self.old.depot) × (buf.new ≡ buf.old)) }
+        ensures counts { CountsReads (D.counts self.old.depot) (D.counts self.new.depot) result }
+        ensures screen { IfOk result (λ n. StaysWith self.old.screen self.new.screen
+            (λ old new. IsReadOn n old.file new.file)) }
+        ensures unshown { OnErr result (self.new.screen ≡ self.old.screen) }
+    {
         let count = self.depot.read(buf)?;
         self.has_read(&buf[..count]);
         Ok(count)
     }
 
-    fn start_write(&mut self, name: &str) -> Result<(), DepotBad> {
+    fn start_write(&mut self, name: &str) -> Result<(), DepotBad>
+        ensures ok { OnOk result (IsTrue D.tells → D.content self.new.depot ≡ begun (D.content self.old.depot) name.now) }
+        ensures refused { OnErr result (IsTrue D.tells → IsNotBegun (D.content self.old.depot) name.now (D.content self.new.depot)) }
+        ensures counts { CountsWrites (D.counts self.old.depot) (D.counts self.new.depot) result }
+        ensures screen { StaysWith self.old.screen self.new.screen (λ old new. IsBegun Writing name.now new.file) }
+    {
         if let Some(screen) = &mut self.screen {
             screen.start_write(name);
         }
         self.depot.start_write(name)
     }
 
-    fn write(&mut self, bytes: &[u8]) -> Result<usize, DepotBad> {
+    fn write(&mut self, bytes: &[u8]) -> Result<usize, DepotBad>
+        requires { IsTrue D.tells → IsSome (D.content self.old.depot).current }
+        ensures bound { IfOk result (λ n. n ≤ length bytes.now) }
+        ensures progress { IfOk result (λ n. 0 < length bytes.now → 0 < n) }
+        ensures ok { IfOk result (λ n. IsTrue D.tells → D.content self.new.depot ≡ with_written (D.content self.old.depot) (take n bytes.now)) }
+        ensures refused { OnErr result (IsTrue D.tells → D.content self.new.depot ≡ D.content self.old.depot) }
+        ensures counts { CountsWrites (D.counts self.old.depot) (D.counts self.new.depot) result }
+        ensures screen { IfOk result (λ n. StaysWith self.old.screen self.new.screen
+            (λ old new. IsAhead Writing n old.file new.file)) }
+        ensures unshown { OnErr result (self.new.screen ≡ self.old.screen) }
+    {
         let count = self.depot.write(bytes)?;
         self.has_written(&bytes[..count]);
         Ok(count)
     }
 
     /// The line is removed first, since both may go to one terminal.
-    fn say(&mut self, bytes: &[u8]) -> Result<usize, DepotBad> {
+    fn say(&mut self, bytes: &[u8]) -> Result<usize, DepotBad>
+        ensures bound { IfOk result (λ n. n ≤ length bytes.now) }
+        ensures progress { IfOk result (λ n. 0 < length bytes.now → 0 < n) }
+        ensures ok { IfOk result (λ n. IsTrue D.tells → D.content self.new.depot ≡ with_said (D.content self.old.depot) (take n bytes.now)) }
+        ensures refused { OnErr result (IsTrue D.tells → D.content self.new.depot ≡ D.content self.old.depot) }
+        ensures counts { CountsWrites (D.counts self.old.depot) (D.counts self.new.depot) result }
+        ensures screen { StaysWith self.old.screen self.new.screen
+            (λ old new. (new.is_shown ≡ false) × (new.file ≡ old.file)) }
+    {
         self.wipe();
         self.depot.say(bytes)
     }
 
     /// It is shown, and passed on to the other depot.
-    fn note(&mut self, progress: Progress) {
+    fn note(&mut self, progress: Progress)
+        ensures content { D.content self.new.depot ≡ D.content self.old.depot }
+        ensures counts { D.counts self.new.depot ≡ D.counts self.old.depot }
+        ensures screen { StaysWith self.old.screen self.new.screen (λ old new. IsNoted progress old.file new.file) }
+    {
         if let Some(screen) = &mut self.screen {
             screen.note(progress);
         }

@@ -137,7 +137,9 @@ impl Sizes {
     // Twice the lesser of the height and the mean of both sides.
     fn double_thickness(&self) -> u64 {
         let (lower, upper) = self.sides();
-        self.height.saturating_mul(2).min(lower.saturating_add(upper))
+        self.height
+            .saturating_mul(2)
+            .min(lower.saturating_add(upper))
     }
 
     fn has_left_move(&self) -> bool {
