@@ -259,12 +259,6 @@ is_shown() {
         grep -qx 'reading [0-9]* s, in all [0-9]* s\(, [0-9]* MB of memory at most\)\?' stays.txt
 }
 
-# The check of the example on a pseudo terminal: how many rows of its output are compared, and how many shots its file has.
-rows_are_shown() {
-    env -u COLUMNS script -qec "$program check square.gds square.deck >said.txt" /dev/null </dev/null >shown.txt || return 1
-    grep -qF $'\r\033[K\033[?7lchecking square.oas: 0 of 20 rows, 0:00, 1 shots, ' shown.txt
-}
-
 # no_longer_than COLUMNS: where the environment tells that number of columns, each line is shorter and ends with a word
 no_longer_than() {
     COLUMNS=$1 script -qec "$program fracture square.gds square.deck >report.txt" /dev/null </dev/null >shown.txt || return 1
@@ -283,7 +277,6 @@ if [ -c /dev/full ]; then
 fi
 if script -qec true /dev/null </dev/null >/dev/null 2>&1; then
     check 'progress is shown on a terminal and removed' is_shown
-    check 'the rows that are compared are shown' rows_are_shown
     check 'no line is longer than a narrow terminal' no_longer_than 20
 else
     echo 'skipped: a pseudo terminal, since there is no script'
