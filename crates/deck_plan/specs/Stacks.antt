@@ -3,6 +3,9 @@
 -- Some rows are joined: of their list, some trapezoids end below the rows' top, and the others reach it. The rows from
 -- there on are joined by themselves. Where a trapezoid that reaches the top has both lines of one that begins there, it
 -- goes on in it: the two are one trapezoid of all rows. Each other one ends where it reached the top, or begins there.
+--
+-- Each output has a list in each band: `has_lists` of a plan is proved by such lists, row by row, so they are defined
+-- here. A crate above computes them, strip by strip.
 use Rattle.std.specs.Prelude.{ℤ, ◌≡◌, ◌<ℤ◌, Bool, ◌&&◌, not, if◌then◌else◌, List, [], ◌∷◌, ◌++◌, All, filter}
 use Rattle.std.specs.List.{list_any}
 use Rattle.std.specs.Ordering.{int_eq}
