@@ -1,5 +1,6 @@
 //! The density of a deck's outputs: how many triangles of an output's area each window has, printed as a table for each
-//! output.
+//! output. It is a crate of its own for the time of its proofs: but for tests only `mdp_job` calls it, and a change
+//! there doesn't prove them again.
 //!
 //! All numbers are half units.
 #![tactic(auto)]

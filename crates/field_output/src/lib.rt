@@ -1,4 +1,6 @@
 //! The files of stripes: the shots of a list, cut along the lines of fields, written into a shot file for each stripe.
+//! It is a crate of its own for the time of its proofs: only `mdp_job` calls it, and a change there doesn't prove them
+//! again.
 #![tactic(auto)]
 
 mod chain;

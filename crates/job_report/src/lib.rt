@@ -1,4 +1,6 @@
-//! How a command ends, and what is printed of it: the report of one that was done, and the line of one that wasn't.
+//! How a command ends, and what is printed of it: the report of one that was done, and the line of one that wasn't. It
+//! is a crate of its own since two crates use it: `mdp_job` ends and prints by it, and `explain` tells a person what
+//! its statuses mean.
 //!
 //! A line is a few pieces of text and numbers. What is printed goes through a buffer on the stack. Nothing here takes
 //! memory.

@@ -1,4 +1,5 @@
-//! The words of the program: which command they are, and the names and numbers in them.
+//! The words of the program: which command they are, and the names and numbers in them. It is a crate of its own since
+//! two crates read words by it: `mdp_job` does what they say, and `explain` tells a person what came of it.
 #![tactic(auto)]
 
 mod commands;
