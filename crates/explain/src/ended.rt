@@ -26,8 +26,8 @@ pub struct Ended<'a> {
     pub status: &'a Status,
     /// The first call that the system refused.
     pub fault: Option<&'a SystemFault>,
-    /// The outputs of the report that have no shots: bit `k` is output `k`, counted from 0.
-    pub empty_outputs: u64,
+    /// How many shots each output of the report has.
+    pub shots: &'a [u64],
 }
 
 /// What is told where the system doesn't hand over the words of the command.
@@ -78,7 +78,7 @@ fn tell_input<D: Depot>(
     ensures reads { IsTrue D.tells → ChangesLeftOnly (D.content depot.old) (D.content depot.new) }
 {
     match ended.status {
-        Status::Done => warn(alloc, note, names, ended.empty_outputs, depot),
+        Status::Done => warn(alloc, note, ended.words, names, ended.shots, depot),
         Status::Deck(fault) => explain_deck(alloc, note, names, fault, depot),
         Status::Layout(fault) => explain_layout(alloc, note, names, fault, depot),
         _ => Ok(()),

@@ -1,6 +1,6 @@
 //! Where a GDSII file is refused: the cell, the element, its layer and its place.
 use crate::note::Note;
-use crate::warning::put_new;
+use crate::walk::{Found, Title};
 use gds_record::{Kind, Record, int4, record_at, unsigned2};
 use geo_stream::NoMemory;
 use layout_model::Pair;
@@ -320,27 +320,80 @@ pub(crate) fn placement_of<'a>(
     None
 }
 
-/// Puts the layers and datatypes of all polygons and paths of a GDSII file, each once.
-pub(crate) fn put_gds_pairs(bytes: &[u8], pairs: &mut Vec<Pair>) -> Result<(), NoMemory> {
-    let mut place = NOWHERE;
-    let mut at = 0;
-    for _record in 0..bytes.len() {
-        let Some(record) = record_here(bytes, at) else {
-            return Ok(());
-        };
-        place.take(bytes, at, record);
-        if let (Kind::Xy, Some(layer), Some(datatype)) = (
-            record.kind,
-            place.layer,
-            place.datatype,
-        ) {
-            let pair = Pair {
+// A name without the NULs at its end.
+fn trimmed(name: &[u8]) -> &[u8] {
+    let mut rest = name;
+    for _byte in 0..name.len() {
+        match rest {
+            [shorter @ .., 0] => rest = shorter,
+            _ => return rest,
+        }
+    }
+    rest
+}
+
+/// The records of a GDSII file, one after another.
+#[derive(Clone, Copy)]
+pub(crate) struct GdsWalk<'a> {
+    bytes: &'a [u8],
+    at: usize,
+    // of the current element: whether it shows something, and where
+    is_shape: bool,
+    layer: Option<u16>,
+    datatype: Option<u16>,
+}
+
+impl<'a> GdsWalk<'a> {
+    /// All records of a file.
+    pub(crate) fn new(bytes: &'a [u8]) -> GdsWalk<'a> {
+        GdsWalk {
+            bytes,
+            at: 0,
+            is_shape: false,
+            layer: None,
+            datatype: None,
+        }
+    }
+
+    // What comes before the end of the current element, which is a shape or none.
+    fn begun(&mut self, is_shape: bool) -> Found<'a> {
+        self.is_shape = is_shape;
+        Found::Other
+    }
+
+    // The shape of the current element.
+    fn shape(&self) -> Found<'a> {
+        match (self.is_shape, self.layer, self.datatype) {
+            (true, Some(layer), Some(datatype)) => Found::Shape(Pair {
                 layer: u64::from(layer),
                 datatype: u64::from(datatype),
-            };
-            put_new(pairs, pair)?;
+            }),
+            _ => Found::Other,
         }
-        at = record.next;
     }
-    Ok(())
+
+    // What a record has.
+    fn take(&mut self, record: Record) -> Found<'a> {
+        let content = content_of(self.bytes, record);
+        match record.kind {
+            Kind::StrName => return Found::Cell(Title::Name(trimmed(content))),
+            Kind::Sname => return Found::Placed(Title::Name(trimmed(content))),
+            Kind::Boundary => return self.begun(true),
+            Kind::Path | Kind::EndEl => return self.begun(false),
+            Kind::Layer => self.layer = number_of(content),
+            Kind::DataType => self.datatype = number_of(content),
+            // a path of no width has no rectangles
+            Kind::Width => self.is_shape = content != [0u8, 0, 0, 0].as_slice(),
+            Kind::Xy => return self.shape(),
+            _ => {}
+        }
+        Found::Other
+    }
+
+    /// What the next record has. None where there is none.
+    pub(crate) fn next(&mut self) -> Option<Found<'a>> {
+        let record = record_here(self.bytes, self.at)?;
+        self.at = record.next;
+        Some(self.take(record))
+    }
 }

@@ -3,45 +3,45 @@ ghost use Rattle.std.specs.Prelude.{◌≡◌};
 
 use depot::{Depot, DepotBad, Progress};
 
-/// How the line of an output ends that has no shots.
-const ENDING: &[u8] = b" shots 0 triangles 0\n";
-
 /// How many lines a report has before those of its outputs.
 const BEFORE: u32 = 8;
 
-/// The outputs without shots of a report that is heard byte by byte.
+/// How many blanks the line of an output has before the number of its shots.
+const BLANKS: u32 = 3;
+
+/// How many outputs a report has at most.
+const MOST: usize = 64;
+
+/// The numbers of shots in the lines of a report that is heard byte by byte.
 #[derive(Clone, Copy)]
 struct Ear {
-    // how many bytes of the ending were heard last
-    matched: usize,
+    // how many lines have ended, and how many blanks the current one has so far
     lines: u32,
-    empty: u64,
-}
-
-// How many bytes of the ending are the last ones heard, after so many and this byte.
-fn matched_after(matched: usize, byte: u8) -> usize {
-    if ENDING.get(matched) == Some(&byte) {
-        return matched.saturating_add(1);
-    }
-    let was_space = matched > 0 && ENDING.get(matched - 1) == Some(&b' ');
-    if was_space && ENDING.get(1) == Some(&byte) {
-        return 2;
-    }
-    if byte == b' ' { 1 } else { 0 }
+    blanks: u32,
+    shots: [u64; MOST],
 }
 
 impl Ear {
-    fn hear(&mut self, byte: u8) {
-        self.matched = matched_after(self.matched, byte);
-        if byte != b'\n' {
+    // Takes a digit of the number of shots of the current output.
+    fn take_digit(&mut self, digit: u8) {
+        let output = self.lines.saturating_sub(BEFORE) as usize;
+        if self.lines < BEFORE || MOST <= output {
             return;
         }
-        let output = self.lines.saturating_sub(BEFORE);
-        if self.matched == ENDING.len() && BEFORE <= self.lines && output < 64 {
-            self.empty |= 1 << output;
+        let value = u64::from(digit.saturating_sub(b'0'));
+        self.shots[output] = self.shots[output].saturating_mul(10).saturating_add(value);
+    }
+
+    fn hear(&mut self, byte: u8) {
+        match byte {
+            b'\n' => {
+                self.lines = self.lines.saturating_add(1);
+                self.blanks = 0;
+            }
+            b' ' => self.blanks = self.blanks.saturating_add(1),
+            digit if self.blanks == BLANKS => self.take_digit(digit),
+            _ => {}
         }
-        self.matched = 0;
-        self.lines = self.lines.saturating_add(1);
     }
 
     fn hear_all(&mut self, bytes: &[u8]) {
@@ -51,8 +51,8 @@ impl Ear {
     }
 }
 
-/// A depot that answers, tells and counts as another one does, and keeps which outputs of a report that is said have no
-/// shots.
+/// A depot that answers, tells and counts as another one does, and keeps how many shots the outputs of a report that is said
+/// have.
 #[derive(Drop)]
 pub struct HeardDepot<D: Drop> {
     depot: D,
@@ -68,9 +68,9 @@ impl<D: Depot + Drop> HeardDepot<D> {
         HeardDepot {
             depot,
             ear: Ear {
-                matched: 0,
                 lines: 0,
-                empty: 0,
+                blanks: 0,
+                shots: [0; MOST],
             },
         }
     }
@@ -82,9 +82,10 @@ impl<D: Depot + Drop> HeardDepot<D> {
         &self.depot
     }
 
-    /// The outputs of the report that have no shots: bit `k` is output `k`, counted from 0.
-    pub fn empty_outputs(&self) -> u64 {
-        self.ear.empty
+    /// How many shots each output of the report has, as far as its lines were heard.
+    pub fn shots(&self) -> &[u64] {
+        let heard = self.ear.lines.saturating_sub(BEFORE) as usize;
+        &self.ear.shots[..heard.min(MOST)]
     }
 }
 

@@ -1,6 +1,6 @@
 //! Where an OASIS file is refused: the cell, the element, its layer and its place.
 use crate::note::Note;
-use crate::warning::put_new;
+use crate::walk::{Found, Title};
 use geo_stream::NoMemory;
 use layout_model::Pair;
 use oas_lex::Real;
@@ -242,23 +242,95 @@ pub(crate) fn unit_of(bytes: &[u8]) -> Option<Real> {
     }
 }
 
-/// Puts the layers and datatypes of all shapes of an OASIS file, each once.
-pub(crate) fn put_oas_pairs(bytes: &[u8], pairs: &mut Vec<Pair>) -> Result<(), NoMemory> {
-    let mut place = NOWHERE;
-    let mut at = FIRST;
-    for _record in 0..bytes.len() {
-        let Some((record, next)) = record_here(bytes, at) else {
-            return Ok(());
-        };
-        place.take(at, &record);
-        if let (OasRecord::Shape { .. }, Some(layer), Some(datatype)) = (
-            &record,
-            place.layer,
-            place.datatype,
-        ) {
-            put_new(pairs, Pair { layer, datatype })?;
+/// The records of an OASIS file, one after another.
+#[derive(Clone, Copy)]
+pub(crate) struct OasWalk<'a> {
+    bytes: &'a [u8],
+    at: usize,
+    // how many names of cells without a number there were
+    counted: u64,
+    // what a record leaves out
+    layer: Option<u64>,
+    datatype: Option<u64>,
+    half_width: Option<u64>,
+}
+
+impl<'a> OasWalk<'a> {
+    /// All records of a file.
+    pub(crate) fn new(bytes: &'a [u8]) -> OasWalk<'a> {
+        OasWalk {
+            bytes,
+            at: FIRST,
+            counted: 0,
+            layer: None,
+            datatype: None,
+            half_width: None,
         }
-        at = next;
     }
-    Ok(())
+
+    // What a cell is called in a record.
+    fn title(&self, called: Called) -> Title<'a> {
+        match called {
+            Called::Text(begin, end) => Title::Name(self.bytes.get(begin..end).unwrap_or(&[])),
+            Called::Number(number) => Title::Number(number),
+        }
+    }
+
+    // A cell begins: no record before it tells what is left out.
+    fn begin(&mut self, called: Called) -> Found<'a> {
+        self.layer = None;
+        self.datatype = None;
+        self.half_width = None;
+        Found::Cell(self.title(called))
+    }
+
+    // The name of a cell in a record.
+    fn name(&mut self, text: (usize, usize), number: Option<u64>) -> Found<'a> {
+        let own = number.unwrap_or(self.counted);
+        if number.is_none() {
+            self.counted = self.counted.saturating_add(1);
+        }
+        Found::Numbered(self.bytes.get(text.0..text.1).unwrap_or(&[]), own)
+    }
+
+    // The shape of a record. A path of no width shows nothing.
+    fn shape(&mut self, head: &ShapeHead, kind: &ShapeKind) -> Found<'a> {
+        self.layer = head.layer.or(self.layer);
+        self.datatype = head.datatype.or(self.datatype);
+        if let ShapeKind::Path { half_width, .. } = kind {
+            self.half_width = half_width.or(self.half_width);
+            if self.half_width == Some(0) {
+                return Found::Other;
+            }
+        }
+        match (self.layer, self.datatype) {
+            (Some(layer), Some(datatype)) => Found::Shape(Pair { layer, datatype }),
+            _ => Found::Other,
+        }
+    }
+
+    // What a record has.
+    fn take(&mut self, record: &OasRecord) -> Found<'a> {
+        match record {
+            OasRecord::Cell(called) => self.begin(*called),
+            OasRecord::Placement {
+                cell: Some(called),
+                ..
+            } => Found::Placed(self.title(*called)),
+            OasRecord::Name {
+                kind: NameKind::Cell,
+                text,
+                number,
+            } => self.name(*text, *number),
+            OasRecord::Shape { head, kind } => self.shape(head, kind),
+            _ => Found::Other,
+        }
+    }
+
+    /// What the next record has. None where there is none.
+    pub(crate) fn next(&mut self) -> Option<Found<'a>> {
+        let (record, next) = record_here(self.bytes, self.at)?;
+        self.at = next;
+        Some(self.take(&record))
+    }
 }

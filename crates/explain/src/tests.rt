@@ -25,7 +25,7 @@ fn numbers_and_lengths(rt: HostRuntime) -> Result<(), Fail> {
 }
 
 #[test]
-fn outputs_without_shots(rt: HostRuntime) -> Result<(), Fail> {
+fn shots_of_outputs(rt: HostRuntime) -> Result<(), Fail> {
     let mut depot = HeardDepot::new(MemDepot::new(rt.alloc()));
     for _line in 0..8 {
         say_whole(&mut depot, b"kept 1\n")?;
@@ -38,6 +38,6 @@ fn outputs_without_shots(rt: HostRuntime) -> Result<(), Fail> {
         &mut depot,
         b"ts 0 triangles 0\noutput shots shots 0 triangles 0\n",
     )?;
-    assert_eq!(rt; depot.empty_outputs(), 6);
+    assert_eq!(rt; depot.shots(), [10u64, 0, 0].as_slice());
     Ok(())
 }

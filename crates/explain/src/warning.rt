@@ -2,75 +2,65 @@
 ghost use Rattle.std.specs.Prelude.{IsTrue};
 ghost use Rattle.depot.specs.Content.{ChangesLeftOnly};
 
-use crate::deck_lines::{next_line, text_of};
-use crate::gdsii::put_gds_pairs;
+use crate::deck_lines::{line_with, next_line, text_of};
+use crate::hidden::{hidden_pairs, open_pairs};
 use crate::names::Names;
 use crate::note::Note;
-use crate::oasis::put_oas_pairs;
+use crate::pieces::{Pieces, many_pieces};
 use crate::reading::{DECK_LIMIT, FILE_LIMIT, bytes_of};
-use cell_tree::Tree;
-use deck_text::digits_value;
+use crate::walk::{Found, Walk};
+use deck_text::{Deck, digits_value, read_deck};
 use depot::Depot;
 use geo_stream::NoMemory;
-use job_input::{Input, read_input};
+use job_words::{check_names, fracture_names};
 use layout_model::Pair;
 use std::alloc::Global;
 
-// Whether the top cell shows something on a layer and datatype.
-fn shows(tree: &Tree, pair: Pair) -> bool {
-    let top = tree.top();
-    if tree.is_bare(top) {
-        return false;
+/// An output with fewer shots is taken as it is.
+const FEW_SHOTS: u64 = 100;
+
+/// How many pairs of a layout are told.
+const MOST_PAIRS: usize = 24;
+
+// Puts a pair last, where it isn't there and there are few.
+fn put_new(pairs: &mut Vec<Pair>, pair: Pair) -> Result<(), NoMemory> {
+    if pairs.len() <= MOST_PAIRS && !pairs.as_slice().contains(&pair) {
+        pairs.push(pair)?;
     }
-    tree.hull(top, pair).is_some()
+    Ok(())
 }
 
-// The pairs of an input's deck on which the top cell shows nothing.
-fn empty_pairs(alloc: Global, input: &Input) -> Result<Vec<Pair>, NoMemory> {
-    let mut empty = Vec::new(alloc);
-    for pair in input.deck.layers(alloc)?.as_slice() {
-        if !shows(&input.tree, *pair) {
-            empty.push(*pair)?;
-        }
-    }
-    Ok(empty)
-}
-
-// The same of the deck and the layout of these names. None where they can't be read again.
-fn empty_layers<D: Depot>(
-    alloc: Global,
-    depot: &mut D,
-    layout: &str,
-    deck: &str,
-) -> Result<Vec<Pair>, NoMemory>
-    ensures reads { IsTrue D.tells → ChangesLeftOnly (D.content depot.old) (D.content depot.new) }
-{
-    match read_input(alloc, depot, layout, deck) {
-        Ok(input) => empty_pairs(alloc, &input),
-        Err(_refused) => Ok(Vec::new(alloc)),
-    }
-}
-
-/// The layers and datatypes that shapes of a layout's file are on, up to a limit.
+// The layers and datatypes that shapes of a layout's file are on, up to a limit.
 fn pairs_in(alloc: Global, bytes: &[u8]) -> Result<Vec<Pair>, NoMemory> {
     let mut pairs = Vec::new(alloc);
-    match bytes.first() {
-        Some(b'%') => put_oas_pairs(bytes, &mut pairs)?,
-        _ => put_gds_pairs(bytes, &mut pairs)?,
+    let mut walk = Walk::new(bytes);
+    for _record in 0..bytes.len() {
+        match walk.next() {
+            Some(Found::Shape(pair)) => put_new(&mut pairs, pair)?,
+            Some(_) => {}
+            None => break,
+        }
     }
     pairs.sort_unstable();
     Ok(pairs)
 }
 
-/// How many pairs of a layout are told.
-pub(crate) const MOST_PAIRS: usize = 24;
+/// The layers of a deck on which the top cell shows nothing, and those that the layout has.
+#[derive(Drop)]
+struct Layers {
+    hidden: Vec<Pair>,
+    there: Vec<Pair>,
+}
 
-/// Puts a pair last, where it isn't there and there are few.
-pub(crate) fn put_new(pairs: &mut Vec<Pair>, pair: Pair) -> Result<(), NoMemory> {
-    if pairs.len() <= MOST_PAIRS && !pairs.as_slice().contains(&pair) {
-        pairs.push(pair)?;
-    }
-    Ok(())
+// The layers of a layout's file: which of these the top cell doesn't show, and those that are there if it doesn't show some.
+fn layers_in(alloc: Global, bytes: &[u8], top: &[u8], open: Vec<Pair>) -> Result<Layers, NoMemory> {
+    let hidden = hidden_pairs(alloc, bytes, top, open)?;
+    let there = if hidden.is_empty() {
+        Vec::new(alloc)
+    } else {
+        pairs_in(alloc, bytes)?
+    };
+    Ok(Layers { hidden, there })
 }
 
 // Tells the pairs that a layout has.
@@ -98,16 +88,11 @@ fn pair_of(line: &[u8]) -> Option<Pair> {
 }
 
 // Tells of a `layer` line without shapes.
-fn warn_layer(
-    note: &mut Note,
-    line: &[u8],
-    empty: &[Pair],
-    pairs: &[Pair],
-) -> Result<(), NoMemory> {
+fn warn_layer(note: &mut Note, line: &[u8], layers: &Layers) -> Result<(), NoMemory> {
     let Some(pair) = pair_of(line) else {
         return Ok(());
     };
-    if !empty.contains(&pair) {
+    if !layers.hidden.as_slice().contains(&pair) {
         return Ok(());
     }
     note.put("nettletide: warning: layer ")?;
@@ -115,68 +100,250 @@ fn warn_layer(
     note.put(" ")?;
     note.put_pair(pair.layer, pair.datatype)?;
     note.put(": no shapes")?;
-    tell_pairs(note, pairs)?;
+    if layers.there.as_slice().contains(&pair) {
+        return note.put(", but in cells that the top cell doesn't place\n");
+    }
+    tell_pairs(note, layers.there.as_slice())?;
     note.put("\n")
 }
 
-// Tells of a `write` line without shots.
-fn warn_output(note: &mut Note, line: &[u8]) -> Result<(), NoMemory> {
+// Begins to tell of a `write` line.
+fn begin_output(note: &mut Note, line: &[u8]) -> Result<(), NoMemory> {
     note.put("nettletide: warning: output ")?;
     note.put_bytes(text_of(line, 2))?;
-    note.put(": no shots\n")
+    note.put(": ")
 }
 
-// Whether a bit of a number is set.
-fn has_bit(bits: u64, place: u32) -> bool {
-    place < 64 && bits >> place & 1 == 1
+// The settings of a deck that have shots cut, as lines.
+#[derive(Clone, Copy)]
+struct Cutting<'a> {
+    band: &'a [u8],
+    limits: &'a [u8],
 }
 
-// Tells of all lines of a deck of which a person would want to know.
-fn warn_lines(
-    note: &mut Note,
-    deck: &[u8],
-    outputs: u64,
-    empty: &[Pair],
-    pairs: &[Pair],
-) -> Result<(), NoMemory> {
-    let mut rest = deck;
-    let mut output = 0u32;
-    for _line in 0..deck.len() {
-        let Some((line, more)) = next_line(rest) else {
-            return Ok(());
-        };
-        rest = more;
-        match text_of(line, 0) {
-            b"layer" => warn_layer(note, line, empty, pairs)?,
-            b"write" => {
-                if has_bit(outputs, output) {
-                    warn_output(note, line)?;
-                }
-                output = output.saturating_add(1);
-            }
-            _ => {}
+impl<'a> Cutting<'a> {
+    fn of(deck: &'a [u8]) -> Cutting<'a> {
+        Cutting {
+            band: line_with(deck, b"band", 0),
+            limits: line_with(deck, b"limits", 0),
         }
     }
-    Ok(())
+
+    fn is_there(&self) -> bool {
+        !self.band.is_empty() || !self.limits.is_empty()
+    }
+
+    // Tells the settings, and what to do.
+    fn tell(&self, note: &mut Note) -> Result<(), NoMemory> {
+        if !self.band.is_empty() {
+            tell_setting(note, self.band)?;
+        }
+        if !self.band.is_empty() && !self.limits.is_empty() {
+            note.put(" and ")?;
+        }
+        if !self.limits.is_empty() {
+            tell_setting(note, self.limits)?;
+        }
+        note.put(" cut them; greater numbers make fewer shots\n")
+    }
 }
 
-/// Tells, in the order of the deck, its layers on which the top cell shows nothing and its outputs without shots, where
-/// there are such outputs.
-pub(crate) fn warn<D: Depot>(
+// Tells the words of a setting.
+fn tell_setting(note: &mut Note, line: &[u8]) -> Result<(), NoMemory> {
+    note.put("`")?;
+    note.put_bytes(text_of(line, 0))?;
+    for place in 1..3usize {
+        let word = text_of(line, place);
+        if !word.is_empty() {
+            note.put(" ")?;
+            note.put_bytes(word)?;
+        }
+    }
+    note.put("`")
+}
+
+// Tells of how many trapezoids an output's shots are the pieces.
+fn tell_pieces(
+    note: &mut Note,
+    line: &[u8],
+    shots: u64,
+    pieces: Pieces,
+    cutting: &Cutting,
+) -> Result<(), NoMemory> {
+    begin_output(note, line)?;
+    if pieces.shots < shots {
+        note.put("the first ")?;
+    }
+    note.put_number(u128::from(pieces.shots))?;
+    note.put(" shots of ")?;
+    note.put_number(u128::from(pieces.traps))?;
+    note.put(if pieces.traps == 1 {
+        " trapezoid: "
+    } else {
+        " trapezoids: "
+    })?;
+    cutting.tell(note)
+}
+
+/// What is known of a run that went well.
+#[derive(Clone, Copy)]
+struct Made<'a> {
+    // the bytes of the deck, and what they say
+    text: &'a [u8],
+    deck: &'a Deck,
+    // how many shots each output has
+    shots: &'a [u64],
+    layers: &'a Layers,
+    // whether the outputs were written in this run
+    is_new: bool,
+}
+
+// Tells of a `write` line with no shots, or with many.
+fn warn_output<D: Depot>(
     alloc: Global,
     note: &mut Note,
-    names: Names,
-    outputs: u64,
+    line: &[u8],
+    shots: u64,
+    made: &Made,
     depot: &mut D,
 ) -> Result<(), NoMemory>
     ensures reads { IsTrue D.tells → ChangesLeftOnly (D.content depot.old) (D.content depot.new) }
 {
-    if outputs == 0 {
+    if shots == 0 {
+        begin_output(note, line)?;
+        return note.put("no shots\n");
+    }
+    let cutting = Cutting::of(made.text);
+    if shots < FEW_SHOTS || !made.is_new || !cutting.is_there() {
         return Ok(());
     }
-    let empty = empty_layers(alloc, depot, names.layout, names.deck)?;
+    let Ok(file) = str::from_utf8(text_of(line, 2)) else {
+        return Ok(());
+    };
+    match many_pieces(alloc, depot, file, shots, made.deck.band)? {
+        Some(pieces) => tell_pieces(note, line, shots, pieces, &cutting),
+        None => Ok(()),
+    }
+}
+
+// Tells of the output of this number.
+fn warn_numbered<D: Depot>(
+    alloc: Global,
+    note: &mut Note,
+    line: &[u8],
+    output: usize,
+    made: &Made,
+    depot: &mut D,
+) -> Result<(), NoMemory>
+    ensures reads { IsTrue D.tells → ChangesLeftOnly (D.content depot.old) (D.content depot.new) }
+{
+    match made.shots.get(output) {
+        Some(shots) => warn_output(alloc, note, line, *shots, made, depot),
+        None => Ok(()),
+    }
+}
+
+// Tells of a line of a deck after so many outputs, and answers how many there are with it.
+fn warn_line<D: Depot>(
+    alloc: Global,
+    note: &mut Note,
+    line: &[u8],
+    output: usize,
+    made: &Made,
+    depot: &mut D,
+) -> Result<usize, NoMemory>
+    ensures reads { IsTrue D.tells → ChangesLeftOnly (D.content depot.old) (D.content depot.new) }
+{
+    match text_of(line, 0) {
+        b"layer" => {
+            warn_layer(note, line, made.layers)?;
+            Ok(output)
+        }
+        b"write" => {
+            warn_numbered(alloc, note, line, output, made, depot)?;
+            Ok(output.saturating_add(1))
+        }
+        _ => Ok(output),
+    }
+}
+
+// Tells of all lines of a deck of which a person would want to know.
+fn warn_lines<D: Depot>(
+    alloc: Global,
+    note: &mut Note,
+    made: &Made,
+    depot: &mut D,
+) -> Result<(), NoMemory>
+    ensures reads { IsTrue D.tells → ChangesLeftOnly (D.content depot.old) (D.content depot.new) }
+{
+    let mut rest = made.text;
+    let mut output = 0usize;
+    for _line in 0..made.text.len() {
+        let Some((line, more)) = next_line(rest) else {
+            return Ok(());
+        };
+        rest = more;
+        output = warn_line(alloc, note, line, output, made, depot)?;
+    }
+    Ok(())
+}
+
+// The layers of a deck on which the top cell shows nothing. The layout is read only where the outputs leave a layer open.
+fn layers_of<D: Depot>(
+    alloc: Global,
+    names: Names,
+    deck: &Deck,
+    shots: &[u64],
+    depot: &mut D,
+) -> Result<Layers, NoMemory>
+    ensures reads { IsTrue D.tells → ChangesLeftOnly (D.content depot.old) (D.content depot.new) }
+{
+    let open = open_pairs(alloc, deck, shots)?;
+    if open.is_empty() {
+        return Ok(Layers {
+            hidden: open,
+            there: Vec::new(alloc),
+        });
+    }
     let bytes = bytes_of(alloc, depot, names.layout, FILE_LIMIT);
-    let pairs = pairs_in(alloc, &bytes)?;
+    layers_in(alloc, &bytes, deck.top.bytes(), open)
+}
+
+// The deck that a file's text is.
+fn deck_in(alloc: Global, text: &[u8], names: Names) -> Option<Deck> {
+    if text.len() > DECK_LIMIT {
+        return None;
+    }
+    read_deck(alloc, text, names.layout, names.deck).ok()
+}
+
+/// Tells, in the order of the deck, its layers on which the top cell shows nothing, its outputs without shots, and those that
+/// were cut into many. `fracture` or `check` has said how many shots each has.
+pub(crate) fn warn<D: Depot>(
+    alloc: Global,
+    note: &mut Note,
+    words: &[String],
+    names: Names,
+    shots: &[u64],
+    depot: &mut D,
+) -> Result<(), NoMemory>
+    ensures reads { IsTrue D.tells → ChangesLeftOnly (D.content depot.old) (D.content depot.new) }
+{
+    let is_new = fracture_names(words).is_some();
+    if !is_new && check_names(words).is_none() {
+        return Ok(());
+    }
     let text = bytes_of(alloc, depot, names.deck, DECK_LIMIT);
-    warn_lines(note, &text, outputs, empty.as_slice(), pairs.as_slice())
+    let Some(deck) = deck_in(alloc, &text, names) else {
+        return Ok(());
+    };
+    let layers = layers_of(alloc, names, &deck, shots, depot)?;
+    let made = Made {
+        text: &text,
+        deck: &deck,
+        shots,
+        layers: &layers,
+        is_new,
+    };
+    warn_lines(alloc, note, &made, depot)
 }

@@ -4,6 +4,7 @@
 
 mod ending;
 mod memory;
+mod regular;
 mod telling;
 mod usage;
 mod words;

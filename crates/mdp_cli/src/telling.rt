@@ -1,4 +1,5 @@
 //! What the program tells on standard error of a command that has ended. No contract speaks of standard error.
+use crate::regular::RegularDepot;
 use depot::FileDepot;
 use explain::{Ended, HeardDepot, WITHOUT_WORDS, explain};
 use mdp_job::Status;
@@ -42,9 +43,9 @@ pub(crate) fn tell_end(
         words: words.as_slice(),
         status,
         fault: heard.depot().fault(),
-        empty_outputs: heard.empty_outputs(),
+        shots: heard.shots(),
     };
-    let mut depot = FileDepot::new(rt);
+    let mut depot = RegularDepot::new(rt);
     let Some(text) = explain(rt.alloc(), &ended, &mut depot) else {
         return;
     };
