@@ -20,10 +20,11 @@ the deck.
 
 A file is taken exactly where `nettletide shots` takes it, but for its length, which may be any. Every other
 file raises ShotFault with the file, the fault and the byte in the program's words, once the shots before it
-were given. Only a piece of the file is in memory. With numpy a piece is decoded an array at a time: the
-bytes that end numbers give where numbers begin, and the seventh bits are put together for all numbers at
-once. Without it some hundred records are decoded at once in one whole number (shot_lanes.py). What that
-leaves is found by a regular expression, with numbers looked up among those that were seen before.
+were given. Only a piece of the file is in memory. With numpy all records of a piece are decoded at once:
+info byte, layer and datatype tell where records may begin, then one number of each after another is taken
+from eight bytes, and each record must end where the next begins. Without numpy some hundred records are
+decoded at once in one whole number (shot_lanes.py). What that leaves is found by a regular expression, with
+numbers looked up among those that were seen before.
 """
 from __future__ import annotations
 
@@ -268,48 +269,20 @@ class PlainDecoder:
 # ---- a piece at a time, with numpy
 
 class ArrayDecoder:
-    """The same, an array at a time."""
+    """The same, for all records of a piece at once: one number of each after another, which is taken from eight bytes."""
 
-    piece = 1 << 16
+    # Bytes that are decoded at a time: enough that the calls of numpy cost little, and few enough for the cache.
+    piece = 1 << 17
+    # Shots whose numbers become Python's at a time: so few that their memory is in the cache when the next take it.
+    at_once = 500
 
     def __init__(self, pair: Tuple[int, int]):
-        self.pair = pair
-        self.lengths = numpy.zeros(128, numpy.int64)
-        for kind, fields in FIELDS.items():
-            self.lengths[kind] = fields + 2
-
-    def numbers(self, data: bytes):
-        """All numbers and where they begin; ids and info bytes are numbers too."""
-        octets = numpy.frombuffer(data, numpy.uint8)
-        ends = numpy.flatnonzero(octets < 128)
-        begins = numpy.empty(len(ends) + 1, numpy.int64)
-        begins[0] = 0
-        begins[1:] = ends + 1
-        more = ends - begins[:-1]
-        longest = int(more.max()) if len(more) else 0
-        if longest > 8 or bool(((octets[ends] == 0) & (more > 0)).any()):
-            raise Wrong("spelling")
-        values = (octets[begins[:-1]] & 127).astype(numpy.int64)
-        for k in range(1, longest + 1):
-            some = numpy.flatnonzero(more >= k)
-            values[some] |= (octets[begins[some] + k] & 127).astype(numpy.int64) << 7 * k
-        return values, begins
-
-    def starts(self, values):
-        """Where records begin among the numbers, and how many numbers each has."""
-        layer, datatype = self.pair
-        count = len(values)
-        is_start = (values[:-3] < 128) & (values[1:-2] == 0x7B) & (values[2:-1] == layer) & (values[3:] == datatype)
-        some = numpy.flatnonzero(is_start)
-        lengths = self.lengths[values[some]]
-        if len(some) and (some[0] != 0 or bool((some[:-1] + lengths[:-1] != some[1:]).any())):
-            some = numpy.array(chained(some.tolist(), lengths.tolist()), numpy.int64)
-            lengths = self.lengths[values[some]]
-        whole = some + lengths <= count
-        some, lengths = some[whole], lengths[whole]
-        if bool((lengths == 0).any()):
-            raise Wrong("record")
-        return some, lengths
+        self.head = b"\x7B" + unsigned(*pair)
+        # By the id all ones where a record has the slant: of its left side, of its right one; and whether it is a record.
+        self.left, self.right = numpy.zeros(256, numpy.uint64), numpy.zeros(256, numpy.uint64)
+        self.left[[0x17, 0x18]] = self.right[[0x17, 0x19]] = (1 << 64) - 1
+        self.is_known = numpy.zeros(256, bool)
+        self.is_known[list(FIELDS)] = True
 
     def columns(self, data: bytes) -> Tuple[Columns, int]:
         """The shots of the whole records in six columns, and how many bytes these have."""
@@ -317,70 +290,116 @@ class ArrayDecoder:
         return (y0, y1, a, b, *(upper or (a.copy(), b.copy()))), end
 
     def shots(self, data: bytes) -> Tuple[Iterable[Shot], int]:
-        (y0, y1, *sides), end = self.sides(data)
-        y0, y1, *sides = (column.tolist() for column in (y0, y1, *sides))
-        return zip(y0, y1, *sides, *(sides if len(sides) == 2 else ())), end
+        columns, end = self.sides(data)
+
+        def some(begin: int) -> Iterable[Shot]:
+            y0, y1, *sides = (column[begin:begin + self.at_once].tolist() for column in columns)
+            return zip(y0, y1, *sides, *(sides if len(sides) == 2 else ()))
+        return chain.from_iterable(map(some, range(0, len(columns[0]), self.at_once))), end
 
     def sides(self, data: bytes):
         """The columns, but without those of the upper sides where all shots are rectangles, and how many bytes they have."""
-        values, begins = self.numbers(data)
-        if len(values) < 4:
+        octets = numpy.frombuffer(data + bytes(LONGEST_RECORD + 8), numpy.uint8)
+        begins = self.starts(octets, len(data))
+        kinds, fields, ends = self.fields(octets, begins)
+        # What looks like a record within another, or what is wrong.
+        if len(begins) and (begins[0] or (ends[:-1] != begins[1:]).any()):
+            begins = begins[chained(begins.tolist(), ends.tolist())]
+            kinds, fields, ends = self.fields(octets, begins)
+        count = len(ends)
+        if count and ends[-1] > len(data):  # the piece cuts the last record
+            count -= 1
+        if not count:
             return (numpy.empty(0, numpy.int64),) * 4, 0
-        at, lengths = self.starts(values)
-        if not len(at):
-            return (numpy.empty(0, numpy.int64),) * 4, 0
-        ends = at + lengths
-        kinds, wide, high = values[at], values[at + 4], values[at + 5]
-        x, y = self.signed(values[ends - 2]), self.signed(values[ends - 1])
-        if bool((kinds == 0x14).all()):
-            return self.boxes(x, y, wide, high), int(begins[ends[-1]])
-        a, b = numpy.zeros_like(wide), numpy.zeros_like(wide)
-        for kind, slant, field in ((0x17, a, 6), (0x17, b, 7), (0x18, a, 6), (0x19, b, 6)):
-            some = numpy.flatnonzero(kinds == kind)
-            slant[some] = self.signed(values[at[some] + field])
-            if not slant[some].all():
+        wide, high, *slants, x, y = (self.number(spelled[:count], ones[:count]) for spelled, ones in fields)
+        x, y, end = self.signed(x), self.signed(y), int(ends[count - 1])
+        if not (wide.all() and high.all()):
+            raise Wrong("illegal")
+        if not slants:
+            return (y, y + high, x, x + wide), end
+        if not self.is_known[kinds].all():
+            raise Wrong("record")
+        is_slanted = [slanted[kinds[:count]].view(numpy.int64) for slanted in (self.left, self.right)]
+        return self.corners(x, y, wide, high, *map(self.signed, slants), *is_slanted), end
+
+    def starts(self, octets, count: int):
+        """Where records may begin: an info byte, the layer and the datatype follow."""
+        is_start = octets[1:count + 1] == self.head[0]
+        for k, byte in enumerate(self.head[1:], 2):
+            is_start &= octets[k:count + k] == byte
+        return numpy.flatnonzero(is_start)
+
+    def fields(self, octets, begins):
+        """The ids of records; for each number that follows the datatype its bytes without their top bits, and ones in all bits
+        of these bytes; and where the records end. A slant that isn't there is a byte of zero."""
+        kinds = octets[begins]
+        slants = () if (kinds == 0x14).all() else (self.left[kinds], self.right[kinds])
+        words = numpy.ndarray(len(octets) - 7, "<u8", octets, strides=(1,))
+        ends = begins + (1 + len(self.head))
+        fields = []
+        for is_there in (None, None, *slants, None, None):
+            word = words[ends]
+            if is_there is not None:
+                word &= is_there
+            ones = word | 0x7F7F7F7F7F7F7F7F
+            ones ^= ones + 1
+            word &= ones
+            word &= 0x7F7F7F7F7F7F7F7F
+            length = ones & 0x0101010101010101
+            length *= 0x0101010101010101
+            length >>= 56
+            if is_there is not None:
+                length &= is_there
+            ends += length.view(numpy.int64)
+            fields.append((word, ones))
+        return kinds, fields, ends
+
+    @staticmethod
+    def number(spelled, ones):
+        """Numbers of at most six bytes, by their bytes without top bits and ones in all bits of these bytes."""
+        most = int(ones.max())
+        if most >> 48:
+            raise Wrong("illegal, or nearly")
+        if most >> 8:
+            if (spelled < ones >> 8).any():  # the last of several bytes is zero
                 raise Wrong("spelling")
-        return self.corners(x, y, wide, high, a, b), int(begins[ends[-1]])
+            spelled = spelled - (spelled >> 1 & 0x7F807F807F807F80)
+        if most >> 16:
+            spelled = spelled & 0x3FFF00003FFF | spelled >> 2 & 0x0FFFC0000FFFC000
+        if most >> 32:
+            spelled = spelled & 0x0FFFFFFF | spelled >> 4 & 0xFFFFFFF0000000
+        return spelled.view(numpy.int64)
 
     @staticmethod
     def signed(values):
         """Numbers with their signs in bit 0."""
-        if bool((values == 1).any()):
+        signs = values & 1
+        if not signs.any():
+            return values >> 1
+        if (values == 1).any():
             raise Wrong("spelling")
-        signs = -(values & 1)
-        return (values >> 1 ^ signs) - signs
+        return (values >> 1) * (1 - 2 * signs)
 
     @staticmethod
-    def boxes(x, y, wide, high):
-        """The columns of rectangles but the last two."""
-        if bool((wide == 0).any() or (high == 0).any()):
+    def corners(x, y, wide, high, a, b, is_left, is_right) -> Columns:
+        """The columns of shots with these slants, and all ones where a side has one."""
+        left, right = x - numpy.minimum(a, 0), x + wide + numpy.minimum(b, 0)
+        lower, upper = (left, right - b), (left + a, right)
+        if (lower[1] - lower[0] | upper[1] - upper[0]).min() <= 0:
             raise Wrong("illegal")
-        if max(-x.min(), x.max(), -y.min(), y.max(), wide.max(), high.max()) > REACH // 2:
-            raise Wrong("illegal, or nearly")
-        return y, y + high, x, x + wide
-
-    @staticmethod
-    def corners(x, y, wide, high, a, b) -> Columns:
-        right = x + wide
-        lower = x - numpy.minimum(a, 0), right - numpy.maximum(b, 0)
-        upper = x + numpy.maximum(a, 0), right + numpy.minimum(b, 0)
-        down, up = lower[1] - lower[0], upper[1] - upper[0]
-        is_legal = (high > 0) & (down >= 0) & (up >= 0) & (down + up > 0)
-        for slant, corner in ((a, lower[0]), (b, lower[1])):
-            is_legal &= (slant == 0) | (numpy.abs(slant) == high) & (corner + y & 1 == 0)
-        is_near = (numpy.abs(x) <= REACH // 2) & (numpy.abs(y) <= REACH // 2) & (wide <= REACH // 2) & (high <= REACH // 2)
-        if not bool((is_legal & is_near).all()):
-            raise Wrong("illegal, or nearly")
-        return y, y + high, lower[0], lower[1], upper[0], upper[1]
+        for slant, corner, is_slanted in ((a, lower[0], is_left), (b, lower[1], is_right)):
+            if ((numpy.abs(slant) ^ high | corner + y & 1) & is_slanted).any():
+                raise Wrong("illegal")
+        return (y, y + high, *lower, *upper)
 
 
-def chained(some: List[int], lengths: List[int]) -> List[int]:
-    """Of places that look like the start of a record those that the records before lead to."""
+def chained(begins: List[int], ends: List[int]) -> List[int]:
+    """Of what looks like records those, by their numbers, that begin at 0 or where the one before ends."""
     kept, wanted = [], 0
-    for at, length in zip(some, lengths):
-        if at == wanted:
-            kept.append(at)
-            wanted += length
+    for k, (begin, end) in enumerate(zip(begins, ends)):
+        if begin == wanted:
+            kept.append(k)
+            wanted = end
     return kept
 
 
