@@ -19,8 +19,7 @@ use bool_ops::{Op, combine, left_over_within, unite, unite_within};
 use column_sweep::operand_edges;
 use geo_stream::NoMemory;
 use half_grid::{Edge, Frame, Trap, Window};
-use lone_traps::shrink_lone;
-use square_size::put_grown;
+use square_size::{put_grown, shrink_lone};
 use std::alloc::Global;
 use tone_mirror::frame_trap;
 

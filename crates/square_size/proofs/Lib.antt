@@ -13,3 +13,13 @@ pub mod Balance
 pub mod Taking
 pub mod Uprights
 pub mod ForCallers
+pub mod Touching
+pub mod Leaving
+pub mod Entering
+pub mod Members
+pub mod LevelOrder
+pub mod MarkLemmas
+pub mod TouchLemmas
+pub mod ShrinkLemmas
+pub mod BandLemmas
+pub mod PartLemmas
