@@ -247,11 +247,6 @@ changed_all f n [] le = refl
 changed_all f zero (z ∷ zs) le = absurd (omega (arith, le))
 changed_all f (suc n) (z ∷ zs) le = ap (λ l. f z ∷ l) (changed_all f n zs (omega (arith, le)))
 
-pub changed_length : (f : Trapezoid → Trapezoid) (n : ℕ) (zs : List Trapezoid) → length (changed_up_to f n zs) ≡ length zs
-changed_length f n [] = refl
-changed_length f zero (z ∷ zs) = refl
-changed_length f (suc n) (z ∷ zs) = ap suc (changed_length f n zs)
-
 pub changed_at : (f : Trapezoid → Trapezoid) (n : ℕ) (zs : List Trapezoid) (d : Trapezoid)
     → slice_index_or (changed_up_to f n zs) n d ≡ slice_index_or zs n d
 changed_at f n [] d = refl

@@ -269,10 +269,6 @@ one_some : (traps : List Trapezoid) → (traps ≡ [] → ⊥) → one_for traps
 one_some [] some = absurd (some refl)
 one_some (z ∷ traps) some = refl
 
-one_at_most : (traps : List Trapezoid) → one_for traps ≤ 1
-one_at_most [] = omega arith
-one_at_most (z ∷ traps) = omega arith
-
 -- it falls where what waits is given
 pub one_less : (strips next : Strips) → next.band ≡ strips.band → next.next ≡ strips.next → next.waiting.items ≡ []
     → (strips.waiting.items ≡ [] → ⊥) → left_in next < left_in strips
@@ -282,25 +278,6 @@ one_less strips next band at none some =
     let zero = one_none next.waiting.items none in
     let one = one_some strips.waiting.items some in
     omega (arith, gap, zero, one)
-
-gap_less : (a b c : ℤ) → a <ℤ b → b ≤ℤ c → int_gap b c < int_gap a c
-gap_less (pos m) (pos n) (pos k) h l = omega (arith, ints, h, l)
-gap_less (pos m) (pos n) (negsuc k) h l = absurd (omega (arith, ints, l))
-gap_less (pos m) (negsuc n) c h l = absurd (omega (arith, ints, h))
-gap_less (negsuc m) (pos n) (pos k) h l = omega (arith, ints, h, l)
-gap_less (negsuc m) (pos n) (negsuc k) h l = absurd (omega (arith, ints, l))
-gap_less (negsuc m) (negsuc n) (pos k) h l = omega (arith, ints, h, l)
-gap_less (negsuc m) (negsuc n) (negsuc k) h l = omega (arith, ints, h, l)
-
--- and where another strip is put
-pub strip_less : (strips next : Strips) (rows : RowRange) → next.band ≡ strips.band → next.next.y ≡ rows.y1 → rows.y0 ≡ strips.next.y
-    → rows.y0 <ℤ rows.y1 → rows.y1 ≤ℤ strips.band.y1 → left_in next < left_in strips
-strip_less strips next rows band at from some to =
-    let gap : int_gap next.next.y next.band.y1 ≡ int_gap rows.y1 strips.band.y1 =
-    ap (λ (y : ℤ). int_gap y next.band.y1) at ∙ ap (λ (w : RowRange). int_gap rows.y1 w.y1) band in
-    let less = gap_less strips.next.y rows.y1 strips.band.y1 (omega (arith, ints, from, some)) to in
-    let most = one_at_most next.waiting.items in
-    omega (arith, gap, less, most)
 
 pub empty_list : {X : Type 0} (xs : List X) → length xs ≡ 0 → xs ≡ []
 empty_list [] e = refl

@@ -57,28 +57,6 @@ one_of_joined B a b h k = k
 
 -- ---- a rectangle that has all of a list
 
-upright_has : (y0 y1 x0 x1 : ℤ) (left right : Line) → left ≡ Upright x0 → right ≡ Upright x1 → (t : Tile)
-    → IsInFrame (record { x0 = x0; y0 = y0; x1 = x1; y1 = y1 }) t → IsInTrapezoid (trapezoid y0 y1 left right) t
-upright_has y0 y1 x0 x1 left right e f t h = rw (e, f)
-    (record {
-      above_bottom = h.above_bottom;
-      below_top = h.below_top;
-      right_of_left = h.from_left;
-      left_of_right =
-          h.below_right;
-    })
-
-pub rectangle_has : (z : Trapezoid) (frame : Frame) → z.left ≡ Upright frame.x0 → z.right ≡ Upright frame.x1
-    → frame.y0 ≡ z.y0 → frame.y1 ≡ z.y1 → (t : Tile) → IsInFrame frame t → IsInTrapezoid z t
-rectangle_has z frame e f low high t h = upright_has z.y0 z.y1 frame.x0 frame.x1 z.left z.right e f t
-    (record {
-      from_left = h.from_left;
-      below_right = h.below_right;
-      above_bottom = subst
-          (λ y. y ≤ℤ t.j) low h.above_bottom;
-      below_top = subst (λ y. t.j <ℤ y) high h.below_top;
-    })
-
 pub around_by : (frame : Frame) (z : Trapezoid) → frame.y0 ≤ℤ z.y0 → z.y1 ≤ℤ frame.y1
     → frame.x0 ≤ℤ int_min (x_on z.left z.y0) (x_on z.left z.y1)
     → int_max (x_on z.right z.y0) (x_on z.right z.y1) ≤ℤ frame.x1 → IsAround frame z

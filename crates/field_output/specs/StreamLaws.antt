@@ -16,10 +16,6 @@ pub chain_low : (next : List ℕ) (low at : ℕ) (ns : List ℕ) → low ≤ len
 chain_low next low at [] h c = omega (arith, h, c)
 chain_low next low at (n ∷ ns) h c = omega (arith, c.0, c.1)
 
-pub chain_high : (next : List ℕ) (low at : ℕ) (ns : List ℕ) → IsChain next low at ns → at ≤ length next
-chain_high next low at [] c = omega (arith, c)
-chain_high next low at (n ∷ ns) c = let below = there next n c.2.0 c.2.1 in omega (arith, c.0, below)
-
 -- it is one for a lesser least number too
 pub chain_weaker : (next : List ℕ) (less low at : ℕ) (ns : List ℕ) → less ≤ low → IsChain next low at ns → IsChain next less at ns
 chain_weaker next less low at [] h c = c

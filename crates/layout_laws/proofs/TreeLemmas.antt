@@ -129,9 +129,6 @@ box_of P first points to back =
 
 -- ---- sides beyond 2^30
 
-none_not_some : {A : Type 0} → (o : Option A) (a : A) → o ≡ None → o ≡ Some a → ⊥
-none_not_some o a none some = absurd (let e : None ≡ Some a = sym none ∙ some in cc)
-
 -- a number that isn't beyond is within
 not_beyond : (z : ℤ) → is_beyond z ≡ false → IsUpTo (2 ^ 30) z
 not_beyond z e = by (int_lt z (neg_ℤ (pos (2 ^ 30)))) (int_lt (pos (2 ^ 30)) z) refl refl e

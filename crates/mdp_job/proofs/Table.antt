@@ -371,10 +371,6 @@ answered_by tells r words command s t top other is e f answer =
           (subst (λ (x : Status). IsAnswerOf tells r command x top) (sym e) answer),
     )
 
--- its answers are those that belong to the words
-pub belongs_by : (words : List (List ℕ)) (command : Command) (s : Status) → AreWordsOf words command → IsOf command s → Belongs words s
-belongs_by words command s is of other w = subst (λ (x : Command). IsOf x s) (one_command words command other is w) of
-
 -- no command answers that the words are none
 never_words : (command : Command) → IsOf command answers.Words → ⊥
 never_words (Fracture layout deck) of = of

@@ -116,11 +116,7 @@ no_tile z y0 y1 t h0 h1 a b h =
     let places = no_place z.left z.right y0 y1 t.j h0 h1 a b in
     omega (arith, ints, numbers.from_left, numbers.below_right, places)
 
--- No tile where there are no rows,
-pub none_without_rows : (z : Trapezoid) (t : Tile) → z.y1 ≤ℤ z.y0 → IsInTrapezoid z t → ⊥
-none_without_rows z t e h = omega (arith, ints, h.above_bottom, h.below_top)
-
--- and none where neither side is longer than 0.
+-- No tile where neither side is longer than 0.
 pub none_between : (z : Trapezoid) (t : Tile) → bottom_of z ≤ℤ pos 0 → top_of z ≤ℤ pos 0 → IsInTrapezoid z t → ⊥
 none_between z t bottom top h = no_tile z z.y0 z.y1 t (omega (arith, ints, bottom)) (omega (arith, ints, top)) h.above_bottom h.below_top h
 

@@ -17,18 +17,6 @@ use Rattle.square_size.proofs.Members.{none_in_empty, counted_in, found_in, coun
 
 -- ---- going through the list
 
-pub parted_none : (d : ℤ) (traps : List Trapezoid) → IsParted d traps [] [] []
-parted_none d traps = (
-  [],
-  record {
-    counted = λ t. omega arith;
-    lone_of = λ z h. absurd (none_in_empty z h);
-    rest_of = λ z h. absurd (none_in_empty z h);
-    left = λ t. (λ h. absurd (omega (arith, h)), λ h. absurd (none_in_empty h.0 h.1));
-    few = omega arith;
-  },
-)
-
 -- a member of a list with one more
 was_or_is : (xs : List Trapezoid) (x z : Trapezoid) {P : Type 0} → Contains (xs ++ x ∷ []) z → (Contains xs z → P) → (x ≡ z → P) → P
 was_or_is xs x z {P} h old new = elim (Contains-push_cases xs x z h) [ inl there ↦ old there | inr same ↦ new same ]
