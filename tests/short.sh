@@ -1,5 +1,5 @@
 #!/usr/bin/env bash
-# The rows of tests/rows.sh with one byte a call, read and written: over real files, where a small library stands between the
+# The cases of tests/rows with one byte a call, read and written: over real files, where a small library stands between the
 # program and the C library (Linux and glibc), and over a depot in memory, by the built program of crates/memory_cli.
 #
 #     usage: tests/short.sh PROGRAM MEMORY
@@ -18,7 +18,8 @@ cat >"$room/files" <<END
 [ -z "\$(find . -size +2048)" ] || exec "$program" "\$@"
 exec env MOST=1 LD_PRELOAD="$room/between.so" "$program" "\$@"
 END
-# The depot holds each file of the folder, and may make those that a deck or the words name.
+# The depot holds each file of the folder, and may make those that a deck or the words name, and stripes -1 to 2. It knows no
+# folders, so where there is one the program runs as ever.
 cat >"$room/memory" <<END
 #!/usr/bin/env bash
 shopt -s nullglob
@@ -28,10 +29,11 @@ for name in *; do
     [ ! -f "\$name" ] || held+=("\$name")
 done
 [ ! -f "\${3-}" ] || mapfile -t made < <(awk '\$1 == "write" { print \$3 }' "\$3")
-[[ -z "\$(find . -size +2048)" && "\${*: -1}" != */* ]] || exec "$program" "\$@"
+[ "\${1-}" != split ] || made+=("\${4-}".{-1,0,1,2})
+[[ -z "\$(find . -mindepth 1 "(" -size +2048 -o -type d ")")" && "\${*: -1}" != */* ]] || exec "$program" "\$@"
 exec "$memory" short "\${held[@]}" , "\${made[@]}" "\${@: -1}" , "\$@"
 END
 chmod +x "$room/files" "$room/memory"
-check 'the rows with one byte a call over real files' "$here/rows.sh" "$room/files"
-check 'the rows with one byte a call over a depot in memory' "$here/rows.sh" "$room/memory"
+check 'the rows with one byte a call over real files' "$here/rows.py" "$room/files"
+check 'the rows with one byte a call over a depot in memory' "$here/rows.py" "$room/memory"
 [ "$failed" -eq 0 ]

@@ -96,7 +96,7 @@ takes_little_memory() {
     (ulimit -v 163840 && exec "$program" fracture larger.gds larger.deck) >/dev/null
 }
 
-check 'small layouts give what was worked out for them' bash tests/rows.sh "$program"
+check 'small layouts give what was worked out for them' tests/rows.py "$program"
 check 'each cut file is refused where it is cut' tests/cuts.py "$program"
 check 'random layouts give what a plain program gives' tests/plain.py "$program" 20
 check 'cells in any order, turned and repeated, give what their boxes give' tests/walks.py "$program"
