@@ -22,7 +22,7 @@ PREFIX := /usr/local
 all: $(PROGRAM)
 
 help:
-	@echo 'make                 proves and builds the program, build/nettletide; JOBS=N proves N crates at a time'
+	@echo 'make                 proves and builds the program alone, build/nettletide; JOBS=N proves N crates at a time'
 	@echo 'make try             runs it on the example with nothing proved'
 	@echo 'make test            runs the tests of all crates, or of CRATE=NAME, with nothing proved'
 	@echo 'make check CRATE=N   proves one crate, over what was proved before'
@@ -48,12 +48,13 @@ help:
 JOBS := $(shell awk -v most=$$(nproc) '/^MemAvailable/ { fit = int($$2 / 5000000); \
     print fit < 1 ? 1 : fit < most ? fit : most }' /proc/meminfo)
 
-# The kit proves crates side by side where none needs the other, and keeps their libraries. Then it builds the program over
-# them, and runs it. Without words the program ends with status 1, so what tells of success is that a program is there.
+# The kit proves the program's crate and those below it, side by side where none needs the other, and keeps their libraries;
+# memory_cli, bench, and the crates of laws and of tests are left out. Then it builds the program over them, and runs it.
+# Without words the program ends with status 1, so what tells of success is that a program is there.
 $(PROGRAM): $(SOURCES)
 	mkdir -p build
 	rm -f crates/mdp_cli/out/mdp_cli crates/mdp_cli/out/mdp_cli.stamp
-	$(RT) all check --jobs $(JOBS) || true
+	cd crates/mdp_cli && $(RT) all check --jobs $(JOBS) || true
 	cd crates/mdp_cli && { $(RT) run; test -x out/mdp_cli; }
 	cp crates/mdp_cli/out/mdp_cli $(PROGRAM)
 
@@ -107,7 +108,8 @@ readme: $(PROGRAM)
 pictures: $(PROGRAM)
 	tools/pictures $(PROGRAM)
 
-# The program over a depot in memory, for the two last scripts of `make compare`, and the one that times single layers.
+# The program over a depot in memory, for the two last scripts of `make compare`, and the one that times single layers. They
+# are proved and built only for the targets that run them.
 $(MEMORY) $(BENCH): build/%: $(SOURCES)
 	mkdir -p build
 	rm -f crates/$*/out/$* crates/$*/out/$*.stamp
