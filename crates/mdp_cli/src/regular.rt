@@ -1,4 +1,6 @@
 //! The files that are read again once a command has ended.
+ghost use Rattle.std.specs.Prelude.{false};
+
 use depot::{Depot, DepotBad, FileDepot, Progress};
 use std::fs;
 
