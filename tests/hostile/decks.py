@@ -84,6 +84,55 @@ def longest():
     return FRACTURE, 2, "deck refused: line .."
 
 
+def written_often(steps, outputs):
+    """A grid of squares changed by `xor` with smaller ones in them, and changed back, and so on; the last area in many files."""
+    places = grid(100, 100, (20, 0), (0, 20))
+    oas(oas_cell("TOP", rectangle(0, 0, 10, 10, repetition=places)), rectangle(2, 2, 8, 8, 2, places))
+    lines = [f"xor S{k} {'A' if k == 0 else f'S{k - 1}'} B" for k in range(steps)]
+    files = [f"write S{steps - 1} out{k}.oas 1 0" for k in range(outputs)]
+    deck("layer A 1 0", "layer B 2 0", *lines, *files)
+    return FRACTURE, 0, f"output out{outputs - 1}.oas shots 10000 triangles 8000000"
+
+
+def bars(upright, level):
+    """Upright bars on one layer, level ones on another; what both together grow by."""
+    oas(oas_cell("TOP", upright), level)
+    deck("layer A 1 0", "layer B 2 0", "or C A B", "grow D C 20", "xor E C D", "write E out.oas 1 0")
+    return FRACTURE, 0
+
+
+def many(count, dx, dy):
+    return unsigned(9, count - 2) + general(dx, dy)
+
+
+def bars_below(count):
+    """The level bars begin where the upright ones end, and so does a band: the gaps and a rim."""
+    side = 20 * count
+    words = bars(rectangle(0, -side, 10, 0, 1, many(count, 20, 0)), rectangle(0, 0, side, 10, 2, many(count, 0, 20)))
+    area = 400 * count * count + 800 * count + 200
+    return *words, f"output out.oas shots {4 * count + 3} triangles {8 * area}"
+
+
+def bars_across(count):
+    """All bars cross, so that a hole is left between each two of both."""
+    side = 20 * count
+    words = bars(rectangle(0, 0, 10, side, 1, many(count, 20, 0)), rectangle(0, 0, side, 10, 2, many(count, 0, 20)))
+    area = 100 * count * count + 800 * count + 300
+    return *words, f"output out.oas shots {count * count + count + 3} triangles {8 * area}"
+
+
+def bars_under(count):
+    """The level bars leave no gap, each a step further to the right than the one below it, and cover the upright ones: a rim.
+
+    Round the end of each, but for the last, are 20 rows that the next one has grown into too; these are wider by the step.
+    """
+    wide = 22 * count
+    upright = rectangle(count, 0, count + 10, 20 * count, 1, many(count, 20, 0))
+    words = bars(upright, rectangle(0, 0, wide, 20, 2, many(count, 1, 20)))
+    area = (20 * count + 20) * (wide + 20) + 20 * (count - 1) - 20 * wide * count
+    return *words, f"output out.oas shots {4 * count} triangles {8 * area}"
+
+
 CASES = [
     ("a square grown by 65,536 once, band 1024", True, lambda: grown(1, 1024)),
     ("a square grown by 65,536 255 times, band 1048576", True, lambda: grown(255, 1048576)),
@@ -99,4 +148,9 @@ CASES = [
     ("255 steps, each of which takes the one before twice", True, lambda: taken_twice(255)),
     ("a row doubled 20 times by its mirror image", False, lambda: mirrored(20)),
     ("a deck of 65,536 bytes", True, longest),
+    ("20,000 upright bars below 20,000 level ones, what both grow by", True, lambda: bars_below(20000), SWIFT),
+    ("20,000 upright bars under 20,000 level ones, what both grow by", False, lambda: bars_under(20000), SWIFT),
+    ("1,000 upright bars across 1,000 level ones, what both grow by", False, lambda: bars_across(1000), SWIFT),
+    ("2,000 upright bars across 2,000 level ones, what both grow by", False, lambda: bars_across(2000), SWIFT),
+    ("10,000 squares, `xor` 250 times, and the last area in 64 files", False, lambda: written_often(250, 64), SWIFT),
 ]

@@ -45,6 +45,22 @@ def bar_of_windows(count):
     return ["density", "64", "layout", "deck"], 0, f"triangles {count * 2 * 64 * 64}"
 
 
+def bars_through_windows(bars, count):
+    """Bars one above another, all through the same windows of 64."""
+    oas(oas_cell("TOP", rectangle(-16 * count, 0, 16 * count, 1, repetition=unsigned(3, bars - 2, 2))))
+    deck()
+    return ["density", "64", "layout", "deck"], 0, f"triangles {bars * count * 64 * 4}"
+
+
+def leftward(size, rows):
+    """Squares, each in the next window to the left of the one before, and a row above it; so many rows of windows of them."""
+    count = size // 2
+    repetition = unsigned(8, count - 2, rows - 2) + general(-count, 1) + general(0, count)
+    oas(oas_cell("TOP", rectangle((1 << 29) - 1, 0, 1 << 29, 1, repetition=repetition)))
+    deck()
+    return ["density", str(size), "layout", "deck"], 0, f"triangles {8 * count * rows}"
+
+
 def plane_of_fields():
     """One shot, as large as may be split, through as many fields as there may be stripes of."""
     write("shots.oas", SHOTS_HEAD, shot(0, 0, 1 << 25, 1 << 24), END)
@@ -72,4 +88,6 @@ CASES = [
     ("1,000,000 shots in 4,000 stripes, from the lowest and the highest in turn", False, lambda: alternating(1000000, 16, 4000)),
     ("windows of 64 over a chip of 2^31", False, far_apart),
     ("a bar through 8,388,608 windows of 64", False, lambda: bar_of_windows(1 << 23)),
+    ("16 bars through 1,000,000 windows of 64", False, lambda: bars_through_windows(16, 1000000), SWIFT),
+    ("32 rows of 32,768 windows, met from right to left", False, lambda: leftward(65536, 32), SWIFT),
 ]

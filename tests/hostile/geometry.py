@@ -2,6 +2,7 @@
 from records import *
 
 FRACTURE = ["fracture", "layout", "deck"]
+LESS_NOTHING = ["layer A 1 0", "layer B 2 0", "sub C A B", "write C out.oas 1 0"]
 
 
 def wires(count, length, step):
@@ -87,7 +88,7 @@ def spiral(corners):
 
     Its legs are level and upright in turn, and each is a shot, from corner to corner where it is level. The upright ones, but for
     the first, are cut at Y 0, where a band ends, and so is the first leg. An area of a path that ends in its last corner is its
-    width times its length.
+    width times its length. Given are the rectangles of the legs, the number of shots and that of triangles.
     """
     legs = [10 * (k // 2 + 1) * (1 if k % 4 < 2 else -1) for k in range(corners - 1)]
     centre, normals = [(0, 0)], []
@@ -102,9 +103,89 @@ def spiral(corners):
     points = left + right[::-1]
     steps = [a - c or b - d for (a, b), (c, d) in zip(points[1:-1], points)]
     oas(oas_cell("TOP", b"\x15\x3B" + unsigned(1, 0, 0, len(steps)) + signed(*steps, *points[0])))
-    deck()
+    whole = [sorted([left[k], left[k + 1], right[k], right[k + 1]]) for k in range(len(legs))]
     area = 4 * sum(abs(leg) for leg in legs)
-    return ["fracture", "layout", "deck"], 0, f"output out.oas shots {len(legs) + len(legs) // 2} triangles {8 * area}"
+    return whole, len(legs) + len(legs) // 2, 8 * area
+
+
+def one_spiral(corners, *lines):
+    _, shots, triangles = spiral(corners)
+    deck(*lines)
+    return FRACTURE, 0, f"output out.oas shots {shots} triangles {triangles}"
+
+
+def spiral_checked(corners):
+    """The legs of a spiral as shots, of which the upright ones are between the level ones."""
+    legs, _, triangles = spiral(corners)
+    shots = []
+    for k, corners_of_leg in enumerate(legs):
+        xs, ys = sorted(x for x, _ in corners_of_leg), sorted(y for _, y in corners_of_leg)
+        if k % 2 == 0:
+            shots.append((xs[0], ys[0], xs[-1], ys[-1]))
+        else:
+            shots.append((xs[0], ys[0] + 4, xs[-1], ys[-1] - (4 if k + 1 < len(legs) else 0)))
+    return judged(shots, triangles)
+
+
+def judged(shots, triangles):
+    """What `check` says of these rectangles of grid steps, which are the area."""
+    deck()
+    write("out.oas", SHOTS_HEAD, (shot(*(2 * number for number in (x0, y0, x1 - x0, y1 - y0))) for x0, y0, x1, y1 in shots), END)
+    return ["check", "layout", "deck"], 0, f"exact out.oas shots {len(shots)} triangles {triangles}"
+
+
+def comb_checked(teeth):
+    """A bar with upright teeth, of which no two have one length; below each a piece of the bar."""
+    lengths = [k * 7919 % teeth + 1 for k in range(teeth)]
+    gds(cell("TOP", box(0, -10, 20 * teeth, 0), *(box(20 * k, 0, 20 * k + 10, high) for k, high in enumerate(lengths))))
+    pieces = [(20 * k, -10, 20 * k + 20, 0) for k in range(teeth)]
+    pieces += [(20 * k, 0, 20 * k + 10, high) for k, high in enumerate(lengths)]
+    return judged(pieces, 8 * (200 * teeth + 10 * sum(lengths)))
+
+
+def hatch_checked(count):
+    """Level bars across as many upright ones; each level one is a shot, and so is each piece of the others between them."""
+    side = 20 * count
+    level = (box(0, y, side, y + 10) for y in range(0, side, 20))
+    gds(cell("TOP", *level, *(box(x, 0, x + 10, side) for x in range(0, side, 20))))
+    shots = [piece for y in range(0, side, 20)
+             for piece in [(0, y, side, y + 10)] + [(x, y + 10, x + 10, y + 20) for x in range(0, side, 20)]]
+    return judged(shots, 8 * 300 * count * count)
+
+
+def stair_and_wires(squares, count):
+    """A stair of overlapping squares, and slanted wires over all its rows, each of which crosses it once.
+
+    A wire has 72 square grid steps with the stair: 40 in the ten rows where it leaves the stair on the left, and in the ten below
+    them 40 less the corner where it comes in. Each makes three shots more than the stair has.
+    """
+    high, space = 10 * (squares + 1), 100
+    first = (high - space * count) // 40 * 20
+    wire = [(first, 0), (first + 4, 0), (first + 4 - high, high), (first - high, high)]
+    oas(oas_cell("TOP", rectangle(0, 0, 20, 20, repetition=unsigned(9, squares - 2) + general(10, 10))),
+        b"\x15\x3F" + unsigned(1, 0) + point_list(wire) + signed(*wire[0]) + unsigned(2, count - 2, space))
+    deck()
+    area = 300 * squares + 100 + count * (4 * high - 72)
+    return FRACTURE, 0, f"output out.oas shots {squares + 1 + 3 * count} triangles {8 * area}"
+
+
+def along_diagonal(times):
+    """A triangle whose outline goes up and down its slanted side so often, each time from a higher place to a lower one."""
+    far = 10 * times
+    there = [point for k in range(times // 2) for point in ((k, k), (far - k, far - k))]
+    oas(oas_cell("TOP", oasis_polygon(there + [(far, far), (0, far)])))
+    deck()
+    return FRACTURE, 0, f"output out.oas shots 1 triangles {4 * far * far}"
+
+
+def crossed(times):
+    """Two wires that cross each other, so often on one place: four arms, and two halves where they meet."""
+    far, wide = 10000, 10
+    up = polygon([(0, 0), (far, far), (far + wide, far), (wide, 0)])
+    down = polygon([(0, far), (wide, far), (far + wide, 0), (far, 0)])
+    gds(cell("TOP", (up + down) * times))
+    deck()
+    return FRACTURE, 0, f"output out.oas shots 6 triangles {8 * (2 * far * wide - wide * wide // 2)}"
 
 
 CASES = [
@@ -116,7 +197,14 @@ CASES = [
     ("a pile of 100,000 squares, each a step further", False, lambda: stairs(100000)),
     ("a square 1,000,000 times", False, lambda: same(1000000)),
     ("a polygon of 8,191 points that crosses itself at each edge", True, lambda: zigzag(4094, 100)),
-    ("a spiral of 100,000 points", True, lambda: spiral(50000)),
+    ("a spiral of 100,000 points", True, lambda: one_spiral(50000)),
+    ("a spiral of 100,000 points less nothing", True, lambda: one_spiral(50000, *LESS_NOTHING), SWIFT),
+    ("a spiral of 100,000 points, checked", True, lambda: spiral_checked(50000), SWIFT),
+    ("a comb of 100,000 teeth, checked", False, lambda: comb_checked(100000), SWIFT),
+    ("700 level bars across 700 upright ones, checked", False, lambda: hatch_checked(700), SWIFT),
+    ("a stair of 20,000 squares with 1,500 slanted wires over it", True, lambda: stair_and_wires(20000, 1500), SWIFT),
+    ("a polygon that runs 10,000 times along its own diagonal", True, lambda: along_diagonal(10000), SWIFT),
+    ("two wires that cross 1,000 times on one place", True, lambda: crossed(1000), SWIFT),
     ("a polygon whose edges cross each other 40,000 times", True, lambda: woven(200, 10)),
     ("a polygon whose edges cross each other 4,000,000 times", False, lambda: woven(2000, 10)),
     ("a shot 1,000,000 times, checked", False, lambda: check_same(1000000)),

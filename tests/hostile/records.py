@@ -4,7 +4,14 @@ import sys
 
 sys.path.insert(0, os.path.join(os.path.dirname(os.path.abspath(__file__)), "..", "..", "tools"))
 from layout_bytes import (END, GDS_END, MAGIC, gds_boundary, gds_box, gds_cell, gds_head, gds_name, gds_placement, gds_record,
-                          oasis_cell, oasis_head, oasis_rectangle, shot_record, shots_head, signed, text, unsigned)  # noqa: E402,F401
+                          general, grid, oasis_cell, oasis_head, oasis_placement, oasis_polygon, oasis_rectangle, point_list,
+                          shot_record, shots_head, signed, text, unsigned)  # noqa: E402,F401
+
+# The fourth field of a case that should be answered within 5 seconds and 256 MB: bytes of address space and seconds of the
+# processor that it may take. There is room for a machine that is four times as slow, and for twice the memory; with LEAN there
+# is none for memory. A case without the field has the limits of run.py.
+SWIFT = (512 << 20, 20)
+LEAN = (256 << 20, 20)
 
 SQUARE = [(0, 0), (0, 10), (10, 10), (10, 0)]
 SQUARE_LINE = "output out.oas shots 1 triangles 800"

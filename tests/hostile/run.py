@@ -4,7 +4,8 @@
     usage: tests/hostile/run.py PROGRAM [quick | WORD..]
 
 Each case is made by a script of this folder, and must be answered with the status and the line that were worked out for it
-(what comes after `..` is free), within 4 GB of address space and 60 seconds of the processor. Time and memory are printed.
+(what comes after `..` is free), within 4 GB of address space and 60 seconds of the processor, or within the limits that it has
+as its fourth field. Time and memory are printed.
 With `quick` only the cases run that take less than a second each, with other words those whose name has all of them.
 
 What today's program can't do within the limits is listed in beyond.txt, a case a line, with what was measured. Such a case
@@ -21,6 +22,7 @@ import time
 
 HERE = os.path.dirname(os.path.abspath(__file__))
 sys.path.insert(0, HERE)
+import bands
 import decks
 import further
 import geometry
@@ -29,10 +31,11 @@ import repetitions
 import rings
 import trees
 
-MEMORY, SECONDS = 4 << 30, 60
+# Bytes of address space and seconds of the processor that a case may take.
+LIMITS = (4 << 30, 60)
 # The last line that is printed has fewer bytes.
 LONGEST_LINE = 1 << 24
-CASES = [case for module in (names, repetitions, trees, geometry, rings, decks, further) for case in module.CASES]
+CASES = [case for module in (names, repetitions, trees, geometry, rings, bands, decks, further) for case in module.CASES]
 
 
 class Skipped(Exception):
@@ -46,16 +49,16 @@ def beyond():
     return {words[0]: words[1] for words in lines}
 
 
-def limit():
-    resource.setrlimit(resource.RLIMIT_AS, (MEMORY, MEMORY))
-    resource.setrlimit(resource.RLIMIT_CPU, (SECONDS, SECONDS + 1))
+def limit(memory, seconds):
+    resource.setrlimit(resource.RLIMIT_AS, (memory, memory))
+    resource.setrlimit(resource.RLIMIT_CPU, (seconds, seconds + 1))
     resource.setrlimit(resource.RLIMIT_CORE, (0, 0))
 
 
-def answer(program, words):
+def answer(program, words, limits):
     """Status, last line, processor seconds and megabytes; a status below 0 is the signal that ended the program."""
     with open("said", "wb") as said:
-        child = subprocess.Popen([program, *words], stdout=said, stderr=subprocess.DEVNULL, preexec_fn=limit)
+        child = subprocess.Popen([program, *words], stdout=said, stderr=subprocess.DEVNULL, preexec_fn=lambda: limit(*limits))
         _, status, usage = os.wait4(child.pid, 0)
         child.returncode = os.waitstatus_to_exitcode(status)
     with open("said", "rb") as said:
@@ -65,16 +68,16 @@ def answer(program, words):
 
 
 def answers_of(program):
-    """A pipe to a process that runs the program in a folder with some words, and gives what `answer` does. It is begun while
-    this one is small: what the making of cases takes would else be counted as memory of the program."""
+    """A pipe to a process that runs the program in a folder with some words and limits, and gives what `answer` does. It is
+    begun while this one is small: what the making of cases takes would else be counted as memory of the program."""
     here, there = multiprocessing.Pipe()
     if os.fork() == 0:
         here.close()
         try:
             while True:
-                folder, words = there.recv()
+                folder, words, limits = there.recv()
                 os.chdir(folder)
-                there.send(answer(program, words))
+                there.send(answer(program, words, limits))
         except (EOFError, KeyboardInterrupt):
             os._exit(0)
     there.close()
@@ -85,14 +88,14 @@ def fits(line, wanted):
     return line.startswith(wanted[:-2]) if wanted.endswith("..") else line == wanted
 
 
-def run(answers, make):
+def run(answers, make, limits=LIMITS):
     """What was measured of a case, and what is wrong with its answer, or nothing."""
     home = os.getcwd()
     with tempfile.TemporaryDirectory() as folder:
         os.chdir(folder)
         try:
             words, wanted, line = make()
-            answers.send((folder, words))
+            answers.send((folder, words, limits))
             status, said, seconds, memory = answers.recv()
         finally:
             os.chdir(home)
@@ -101,7 +104,7 @@ def run(answers, make):
     measured = f"{seconds:.2f} s, {memory:.0f} MB"
     if status < 0:
         out_of_time = -status in (signal.SIGXCPU, signal.SIGKILL)
-        return measured, f"no answer within {SECONDS} s" if out_of_time else f"ended by signal {-status}"
+        return measured, f"no answer within {limits[1]} s" if out_of_time else f"ended by signal {-status}"
     if status != wanted or not fits(said, line):
         return measured, f"status {status} in place of {wanted}: {said[:100]}"
     return measured, None
@@ -120,9 +123,9 @@ def main(program, words):
     failed = past = 0
     begun = time.monotonic()
     cases = chosen(words)
-    for name, _, make in cases:
+    for name, _, *how in cases:
         try:
-            measured, fault = run(answers, make)
+            measured, fault = run(answers, *how)
         except FileNotFoundError as missing:
             print(f"skipped: {name}, since there is no {missing.filename}", flush=True)
             continue

@@ -49,6 +49,15 @@ def many_shared(count):
     return ["fracture", "layout", "deck"], 0, f"output out.oas shots {count} triangles {800 * count}"
 
 
+def pairs(count):
+    """A cell with a square on each of so many layers, and as many cells that place it, each a step further, which TOP places."""
+    names = ["C%d" % k for k in range(count)]
+    gds(cell("LEAF", *(box(0, 0, 10, 10, layer) for layer in range(1, count + 1))),
+        (cell(name, place("LEAF", 20 * k)) for k, name in enumerate(names)), cell("TOP", *map(place, names)))
+    deck()
+    return ["fracture", "layout", "deck"], 0, f"output out.oas shots {count} triangles {800 * count}"
+
+
 def nested(more):
     """2^40 squares by two arrays, and some more."""
     yield cell("LEAF", polygon(SQUARE)) + cell("MIDDLE", array("LEAF", 1024, 1024, 1, 1))
@@ -112,6 +121,7 @@ CASES = [
      lambda: refused("layout refused: deep TOP " + " ".join("C1599.%d" % k for k in range(1, 65)), chains(1600, 64, 1))),
     ("1,600 chains of 65 cells", True, lambda: refused("layout refused: deep TOP C..", chains(1600, 65))),
     ("a cell placed by 100,000 others", False, lambda: many_shared(100000)),
+    ("1,000 cells that place one with shapes on 1,000 layers", True, lambda: pairs(1000), SWIFT),
     ("2^40 shapes", True, most),
     ("2^40 shapes and one more, by arrays", True, most_nested),
     ("2^40 shapes, by placing each cell twice", True, lambda: most_doubled(0)),
